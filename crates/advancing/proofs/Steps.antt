@@ -1,5 +1,5 @@
 -- One form: what is asked, and what stands behind its end, behind a question and behind a form that is taken. Assumes nothing.
-use Rattle.std.specs.Prelude.{◌≡◌, refl, List, [], ◌∷◌, ◌++◌, ℕ, ◌+◌, ◌-◌, ◌*◌, ◌<◌, ◌≤◌, ltb, length, get_or, take, drop, replicate, Option, Some as some, None as nothing, Result, Ok, Err}
+use Rattle.std.specs.Prelude.{◌≡◌, List, ◌∷◌, ◌++◌, ℕ, ◌+◌, ◌-◌, ◌*◌, ◌<◌, ◌≤◌, ltb, length, get_or, take, drop, replicate, Option, Some as some, None as nothing, Result, Ok, Err}
 use Rattle.std.proofs.Common.{sym, ap, ◌∙◌, subst, arith, append-nil, length-append}
 use Rattle.std.proofs.lemmas.List.{length-replicate}
 use native.Mathlib.Numerals.{add-one}
@@ -7,9 +7,8 @@ use borrow.Author.Tests.{lt-ltb, le-ltb}
 use lib.Seq.{drop-cons}
 use Rattle.rules.specs.Limits.{LENGTH, FACTS}
 use Rattle.rules.specs.State.{State}
-use Rattle.rules.specs.Forms.{plus, take_form}
+use Rattle.rules.specs.Forms.{take_form}
 use Rattle.questions.specs.declared.Question.{Question}
-use Rattle.questions.specs.Numbers.{number_of, detail_of}
 use Rattle.sexp.specs.Encode.{encode}
 use Rattle.sexp.specs.Reads.{Clear, ReadRight}
 use Rattle.sexp.specs.ReadLaws.{FormIs, at_end, at_refused, at_form, form_cleared}
@@ -32,7 +31,6 @@ use Rattle.facts.specs.declared.Fact.{Fact}
 use Rattle.running.specs.Course.{Over}
 use Rattle.running.specs.Lent.{fact_row, fact_foot}
 use Rattle.running.specs.Between.{Few, StoredAs}
-use Rattle.advancing.specs.declared.advance.Advance.{Advance}
 use Rattle.advancing.specs.Handed.{record_at, stored_at}
 use Rattle.advancing.specs.Stepped.{Idle, Ready, OverIn, Stay, Stepped, left_in_proof}
 use Rattle.advancing.proofs.Counting.{OneAtMost, taken_few}

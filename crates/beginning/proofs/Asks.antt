@@ -10,13 +10,12 @@ use Rattle.rules.specs.Limits.{LENGTH}
 use Rattle.rules.specs.Text.{short, plain}
 use Rattle.rules.specs.Check.{first_failing, readable, fitting, check}
 use Rattle.kernel.specs.Parsed.{verdict}
-use Rattle.std.specs.Prelude.{Option, Some as some, None as nothing}
 use Rattle.questions.specs.declared.Question.TheVariants as question
 use Rattle.running.specs.declared.stopped.Text.{Text}
 use Rattle.running.specs.declared.stopped.Text.TheVariants as text
 use Rattle.running.specs.declared.stopped.Stopped.{Stopped}
 use Rattle.running.specs.Stopped.{text_number}
-use Rattle.beginning.specs.Asking.{number_in, left_in, Plain, LeftIn}
+use Rattle.beginning.specs.Asking.{left_in, Plain, LeftIn}
 
 -- The first that fails ---------------------------------------------------------------------------------------------------------------
 

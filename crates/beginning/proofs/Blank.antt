@@ -18,7 +18,7 @@ use Rattle.terms.specs.Laws.Empty.{good_empty, made_empty}
 use Rattle.state.specs.declared.sizes.Sizes.{Sizes}
 use Rattle.state.specs.Filled.{filled_none}
 use Rattle.state.specs.Stands.{texts, Board, board, Stands, stands_begin}
-use Rattle.beginning.specs.Lengths.{no_sizes, no_mark, theory_sizes}
+use Rattle.beginning.specs.Lengths.{no_mark, theory_sizes}
 use Rattle.beginning.specs.Opened.{no_board, Lending, Cleared}
 
 -- One table ------------------------------------------------------------------------------------------------------------------------

@@ -1,5 +1,5 @@
 -- Where a check stands when a question is left before the proof, and where the proof begins. Assumes nothing.
-use mathlib.Core.Path.{◌≡◌, refl, sym, ap, ◌∙◌, subst}
+use mathlib.Core.Path.{◌≡◌, refl, sym, ap, ◌∙◌}
 use mathlib.Core.Bool.{Bool, true, false}
 use mathlib.Core.List.{List, []}
 use Prim.Native.Nat.{ℕ, ◌≤◌}
@@ -15,22 +15,20 @@ use Rattle.rules.specs.Forms.{take_goal, take_form}
 use Rattle.rules.specs.Check.{Outcome, refused_in, after_proof, after_goals, after_theory, check}
 use Rattle.sexp.specs.ReadLaws.{read_first}
 use Rattle.sexp.specs.Through.{Legible}
-use Rattle.kernel.specs.Parsed.{TheoryLists, Exact, counts_of, JudgedAs, verdict, theory_tables, LaidHeld}
+use Rattle.kernel.specs.Parsed.{TheoryLists, counts_of, JudgedAs, verdict, theory_tables, LaidHeld}
 use Rattle.kernel.specs.Layout.{verdict_formed, judged_done, judged_refused}
 use Rattle.kernel.specs.declared.tables.Counts.{Counts}
 use Rattle.std.specs.Prelude.{Result, Ok, Err}
 use Rattle.questions.specs.declared.Refused.{Refused}
-use Rattle.questions.specs.Numbers.{number_of, detail_of}
 use Rattle.terms.specs.declared.store.Mark.{Mark}
 use Rattle.state.specs.declared.sizes.Sizes.{Sizes}
 use Rattle.state.specs.Stands.{Texts, texts, Board, Stands, stands_proof}
 use Rattle.running.specs.declared.stopped.Stopped.{Stopped}
 use Rattle.running.specs.declared.stopped.Text.TheVariants as text
-use Rattle.running.specs.Stopped.{text_number}
 use Rattle.running.specs.Course.{outcome_of}
 use Rattle.beginning.specs.Asking.{Plain, LeftIn}
 use Rattle.beginning.specs.Lengths.{theory_sizes}
-use Rattle.beginning.specs.Posed.{theory_in, Posing, Fresh, PosedAs, Posed}
+use Rattle.beginning.specs.Posed.{theory_in, Posing, Fresh, Posed}
 use Rattle.beginning.specs.Opened.{Opening, Cleared, Opened}
 use Rattle.beginning.proofs.Blank.{theory_stands, nothing_stands}
 

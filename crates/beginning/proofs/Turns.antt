@@ -1,28 +1,26 @@
 -- What is held while the loop of `take_goals` goes through the goals (sexp/specs/Through), and what `read_all` says before. Assumes nothing.
 use Rattle.std.specs.Prelude.{◌≡◌, refl, List, ◌++◌, ℕ, ◌+◌, take, drop, replicate, Option, Some as some, None as nothing, Result, Ok, Err}
-use Rattle.std.proofs.Common.{sym, ap, ◌∙◌, subst, append-nil}
+use Rattle.std.proofs.Common.{sym, ◌∙◌, subst, append-nil}
 use Rattle.rules.specs.Sexp.{read}
 use Rattle.rules.specs.State.{State, begin}
 use Rattle.rules.specs.Forms.{take_goal}
-use Rattle.rules.specs.Loop.{Judged, done, refused, through, whole}
+use Rattle.rules.specs.Loop.{Judged, through, whole}
 use Rattle.questions.specs.declared.Question.{Question}
 use Rattle.questions.specs.declared.Question.TheVariants.{NoGoal}
 use Rattle.questions.specs.declared.Refused.{Refused}
-use Rattle.questions.specs.Numbers.{number_of, detail_of}
 use Rattle.sexp.specs.Encode.{encode}
 use Rattle.sexp.specs.Reads.{ReadRight}
 use Rattle.sexp.specs.ReadLaws.{FormIs}
 use Rattle.sexp.specs.Through.{Going, going_first, going_ends, going_fails, going_form, going_refused, going_taken, whole_refused, whole_forms}
 use Rattle.sexp.specs.Whole.{EndsAs}
 use Rattle.sexp.specs.declared.sexp.Form.{Form}
-use Rattle.kernel.specs.Parsed.{TheoryLists, Formed}
+use Rattle.kernel.specs.Parsed.{Formed}
 use Rattle.terms.specs.declared.store.Store.{Store}
 use Rattle.state.specs.declared.board.Given.{Given}
 use Rattle.state.specs.declared.board.Board.{Board as Lent}
-use Rattle.state.specs.Stands.{Texts, Board}
 use Rattle.forms.specs.Boards.{texts_of, theory_of, tables_of, StandsIn}
 use Rattle.taking.specs.Taking.{TakesGoalIn, GoalTakenIn}
-use Rattle.beginning.specs.Posed.{theory_in, Posing, Fresh, PosedAs, Posed}
+use Rattle.beginning.specs.Posed.{theory_in, Posing, Fresh, Posed}
 use Rattle.beginning.proofs.Posing.{fresh_first, fresh_on}
 
 abbrev pub PosingIn : Given → Lent → Store → List ℕ → Type 0

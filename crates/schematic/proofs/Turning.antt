@@ -1,9 +1,9 @@
 -- One form of the proof: what is asked of the callees, and that all stands again afterwards, with the record of the fact that was stored and the counts;
 -- and what is left when no form is. Assumes nothing.
-use Rattle.std.specs.Prelude.{◌≡◌, refl, List, ℕ, ◌+◌, ◌<◌, ◌≤◌, length, drop, set, Option, Some as some, None as nothing, Result, Ok, Err}
+use Rattle.std.specs.Prelude.{◌≡◌, refl, List, ℕ, ◌+◌, ◌<◌, ◌≤◌, length, drop, Option, Some as some, None as nothing, Result}
 use Rattle.std.proofs.Common.{sym, ap, ◌∙◌, subst, arith}
 use Rattle.rules.specs.Limits.{LENGTH, FACTS}
-use Rattle.rules.specs.State.{State, Counts as Tally}
+use Rattle.rules.specs.State.{Counts as Tally}
 use Rattle.rules.specs.Forms.{plus}
 use Rattle.terms.specs.declared.store.Store.{Store}
 use Rattle.terms.specs.Lent.{SameTables}
@@ -24,7 +24,7 @@ use Rattle.running.specs.Lent.{Mirrored}
 use Rattle.running.specs.Between.{Few, StoredAs}
 use Rattle.running.specs.RecordLaws.{mirrored_next}
 use Rattle.advancing.specs.declared.advance.Advance.{Advance}
-use Rattle.advancing.specs.Stepped.{SameScratch, Ready, Stay, Stepped, AdvancedAs, OverIn, left_in_proof}
+use Rattle.advancing.specs.Stepped.{SameScratch, Ready, Stay, Stepped, OverIn}
 use Rattle.schematic.specs.Ran.{Kept, RanIn}
 
 few_fit : (c m : Counts) (forms : ℕ) → Few c forms → Few m 1 → forms ≤ LENGTH → Fits c m

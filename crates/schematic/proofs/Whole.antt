@@ -1,8 +1,7 @@
 -- The whole check: what its parts ask of each other, and that all of it is a call as the definition says; where a table is too short too. Assumes nothing.
-use Rattle.std.specs.Prelude.{◌≡◌, refl, List, ◌++◌, ℕ, ◌*◌, ◌≤◌, length, take, drop, Result, Ok, Err}
+use Rattle.std.specs.Prelude.{◌≡◌, refl, List, ◌++◌, ℕ, ◌*◌, ◌≤◌, length, drop, Result, Ok, Err}
 use Rattle.std.proofs.Common.{sym, ap, ◌∙◌, subst, arith, take_at, drop_at}
 use Rattle.rules.specs.Limits.{SORTS, SYMBOLS, ARGUMENTS, RULES, RULEVARS, PATTERNS, VARIABLES, TERMS, WORDS, DEFS, GOALS, FACTS, ENTRIES}
-use Rattle.rules.specs.State.{no_counts}
 use Rattle.rules.specs.TheoryTables.{rows as rows_of}
 use Rattle.kernel.specs.Parsed.{TheoryLists, theory_lists}
 use Rattle.terms.specs.declared.store.Mark.{Mark}
@@ -22,12 +21,12 @@ use Rattle.counts.specs.Counted.{counts_of, counts_none}
 use Rattle.running.specs.declared.stopped.Stopped.{Stopped}
 use Rattle.running.specs.declared.finish.Report.{Report}
 use Rattle.running.specs.declared.finish.Refusal.{Refusal}
-use Rattle.running.specs.Course.{Underway, Over}
+use Rattle.running.specs.Course.{Over}
 use Rattle.running.specs.Finished.{FinishGiven, Finishes, answer_of}
-use Rattle.running.specs.Lent.{Working, working, theory_front, board_front, Mirrored}
+use Rattle.running.specs.Lent.{Working, working, board_front, Mirrored}
 use Rattle.running.specs.Between.{Few, AllLong}
 use Rattle.running.specs.ReadBack.{Call}
-use Rattle.running.specs.Checking.{tables_of, with_index, unfit, call_fit, call_unfit, facts_room}
+use Rattle.running.specs.Checking.{tables_of, with_index, unfit, call_fit, call_unfit}
 use Rattle.beginning.specs.Lengths.{Fits}
 use Rattle.beginning.specs.Opened.{Opened}
 use Rattle.schematic.specs.Ran.{Kept, Ran, unsettled, Whole, Filled}

@@ -1,4 +1,4 @@
-use Rattle.std.proofs.Common.{rules, arith, sym, ap, ◌++◌}
+use Rattle.std.proofs.Common.{rules, sym, ap, ◌++◌}
 use Rattle.running.specs.Lent.{working}
 use Rattle.schematic.proofs.Whole.{filled_as}
 use Rattle.schematic.proofs.check_long.Goals as goal

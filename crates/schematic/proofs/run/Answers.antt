@@ -1,4 +1,3 @@
-use Rattle.std.proofs.Common.{◌∙◌}
 use Rattle.std.proofs.lemmas.Result.{err_from_is_err_and}
 use Rattle.schematic.proofs.Whole.{left, begun}
 use Rattle.schematic.proofs.run.Goals as goal

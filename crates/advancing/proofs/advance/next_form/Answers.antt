@@ -1,6 +1,6 @@
 use Rattle.std.specs.Prelude.{refl}
 use Rattle.std.proofs.lemmas.Result.{err_from_is_err_and}
-use Rattle.advancing.proofs.Steps.{read_asks, clean, zeros_again, at_the_end, at_unread, used_inside, form_asks, cleared, form_refused, refused_stay, stored_asks, taken_stay, form_taken}
+use Rattle.advancing.proofs.Steps.{clean, at_the_end, at_unread, form_asks, cleared, form_refused, refused_stay, stored_asks, taken_stay, form_taken}
 use Rattle.advancing.proofs.advance.next_form.Goals as goal
 
 pub read_form-requires-clause-clear : goal.read_form-requires-clause-clear

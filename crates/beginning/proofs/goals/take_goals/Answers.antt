@@ -1,6 +1,5 @@
 use Rattle.beginning.proofs.Turns.{turn_first, turn_no_goals, turn_ends, turn_fails, turn_takes, turn_refused, turn_on}
 use Rattle.sexp.specs.Through.{going_cleared}
-use Rattle.std.proofs.Common.{refl}
 use Rattle.beginning.proofs.goals.take_goals.Goals as goal
 
 pub loop-form-init : goal.loop-form-init
