@@ -1,48 +1,42 @@
--- What one form leaves, from what the reader and the form answered. Assumes nothing.
-use mathlib.Core.Path.{◌≡◌, refl, sym, ap, ◌∙◌, subst}
-use mathlib.Core.Bool.{true≢false}
-use mathlib.Core.List.{List, ◌∷◌, ◌++◌, append-nil}
-use Prim.Native.Nat.{ℕ, ◌+◌, ◌-◌, ◌*◌, ◌<◌, ◌≤◌}
-use native.Mathlib.Omega.{arith}
-use native.Mathlib.Nat.{add-zero}
+-- One form: what is asked, and what stands behind its end, behind a question and behind a form that is taken. Assumes nothing.
+use Rattle.std.specs.Prelude.{◌≡◌, refl, List, [], ◌∷◌, ◌++◌, ℕ, ◌+◌, ◌-◌, ◌*◌, ◌<◌, ◌≤◌, ltb, length, get_or, take, drop, replicate, Option, Some as some, None as nothing, Result, Ok, Err}
+use Rattle.std.proofs.Common.{sym, ap, ◌∙◌, subst, arith, append-nil, length-append}
+use Rattle.std.proofs.lemmas.List.{length-replicate}
 use native.Mathlib.Numerals.{add-one}
 use borrow.Author.Tests.{lt-ltb, le-ltb}
-use lib.Dec.{ltb}
-use lib.ListN.{length, get_or, take, drop, replicate, length-append, length-replicate}
 use lib.Seq.{drop-cons}
 use Rattle.rules.specs.Limits.{LENGTH, FACTS}
-use Rattle.rules.specs.State.{State, Counts}
+use Rattle.rules.specs.State.{State}
 use Rattle.rules.specs.Forms.{plus, take_form}
-use Rattle.sexp.specs.Encode.{encode}
-use Rattle.sexp.specs.Reads.{Clear, ReadRight}
-use Rattle.sexp.specs.ReadLaws.{at_end, at_refused, at_form, form_cleared}
-use Rattle.std.specs.Prelude.{Option, Some as some, None as nothing, Result, Ok, Err}
 use Rattle.questions.specs.declared.Question.{Question}
 use Rattle.questions.specs.Numbers.{number_of, detail_of}
+use Rattle.sexp.specs.Encode.{encode}
+use Rattle.sexp.specs.Reads.{Clear, ReadRight}
+use Rattle.sexp.specs.ReadLaws.{FormIs, at_end, at_refused, at_form, form_cleared}
 use Rattle.sexp.specs.declared.sexp.Form.{Form}
-use Rattle.kernel.specs.Parsed.{TheoryLists, Formed}
+use Rattle.kernel.specs.Parsed.{Formed}
 use Rattle.terms.specs.declared.store.Mark.{Mark}
+use Rattle.terms.specs.declared.store.Store.{Store}
 use Rattle.state.specs.declared.sizes.Sizes.{Sizes}
+use Rattle.state.specs.Stands.{Stands}
+use Rattle.state.specs.declared.board.Given.{Given}
+use Rattle.state.specs.declared.board.Board.{Board}
 use Rattle.state.specs.RowTables.{tabled_long}
 use Rattle.state.specs.FactLaws.{facts_tabled, footings_tabled}
-use Rattle.state.specs.Stands.{texts, Board, Stands}
 use Rattle.counts.specs.declared.Counts.{Counts as Counted}
 use Rattle.counts.specs.Counted.{counts_of}
-use Rattle.counts.specs.Sum.{none, sum}
-use Rattle.taking.specs.Taking.{TakesForm, TakenAs}
-use Rattle.taking.specs.declared.take.Taken.{Taken}
-use Rattle.taking.specs.declared.take.Taken.TheVariants as taken_as
-use Rattle.forms.specs.Moved.{Moves}
-use Rattle.running.specs.declared.run.Run.{Run}
-use Rattle.running.specs.Run.{ended_run, refused_run}
-use Rattle.running.specs.Course.{Underway, Over, on, off}
+use Rattle.counts.specs.Sum.{sum}
+use Rattle.forms.specs.Boards.{texts_of, theory_of, tables_of, StandsIn}
+use Rattle.taking.specs.Taking.{TakesFormIn, TakenIn}
+use Rattle.facts.specs.declared.Fact.{Fact}
+use Rattle.running.specs.Course.{Over}
 use Rattle.running.specs.Lent.{fact_row, fact_foot}
-use Rattle.running.specs.Between.{Idle, Few, StoredAs}
+use Rattle.running.specs.Between.{Few, StoredAs}
 use Rattle.advancing.specs.declared.advance.Advance.{Advance}
-use Rattle.advancing.specs.Handed.{record_at, new_at, stays, moves_on, taken_on, Fitting}
-use Rattle.advancing.specs.Stepped.{Ready, AtForm, Stepped}
+use Rattle.advancing.specs.Handed.{record_at, stored_at}
+use Rattle.advancing.specs.Stepped.{Idle, Ready, OverIn, Stay, Stepped, left_in_proof}
 use Rattle.advancing.proofs.Counting.{OneAtMost, taken_few}
-use Rattle.advancing.proofs.Growing.{OneMore, came, same, RowsStay, taken_rows, unmoved_rows}
+use Rattle.advancing.proofs.Growing.{OneMore, came, same, taken_rows, unmoved_rows}
 use Rattle.advancing.proofs.Courses.{over_ended, over_unread, over_form, underway_on}
 
 -- A row as a record ------------------------------------------------------------------------------------------------------------------
@@ -81,29 +75,13 @@ module _ (rows feet : List ℕ) (i : ℕ) where
 
 -- n facts before, k afterwards
 stored_is : (rows feet : List ℕ) (n k : ℕ) → length rows ≡ 6 * FACTS → length feet ≡ 4 * FACTS → k ≤ FACTS → OneMore n k →
-    StoredAs (ltb n k) n k rows feet (new_at (ltb n k) rows feet n)
+    StoredAs (stored_at (ltb n k) rows feet n) n k rows feet
 stored_is rows feet n k a b l (came e) =
-    subst (λ t. StoredAs t n k rows feet (new_at t rows feet n)) (sym (lt-ltb n k (omega arith)))
+    subst (λ t. StoredAs (stored_at t rows feet n) n k rows feet) (sym (lt-ltb n k (omega arith)))
     (e, (row_is rows feet n (omega arith), foot_is rows feet n (omega arith)))
-stored_is rows feet n k a b l (same e) = subst (λ t. StoredAs t n k rows feet (new_at t rows feet n)) (sym (le-ltb n k (omega arith))) e
+stored_is rows feet n k a b l (same e) = subst (λ t. StoredAs (stored_at t rows feet n) n k rows feet) (sym (le-ltb n k (omega arith))) e
 
 -- Counts -----------------------------------------------------------------------------------------------------------------------------
-
-nothing_more : (c : Counts) → c ≡ plus c (counts_of none)
-unfolding plus
-nothing_more c = simp add-zero
-
-few_none : Few none 1
-few_none = record { hypotheses = omega arith; inductions = omega arith; inversions = omega arith; instances = omega arith }
-
-few_same : (forms : ℕ) (c : Counted) → Few c forms → Few (sum c none) forms
-few_same forms c h =
-    record {
-      hypotheses = omega (arith, h.hypotheses);
-      inductions = omega (arith, h.inductions);
-      inversions = omega (arith, h.inversions);
-      instances = omega (arith, h.instances);
-    }
 
 few_one : (m : Counted) (n : ℕ) → OneAtMost (counts_of m) n → n ≤ LENGTH → Few m 1
 few_one m n h l =
@@ -123,163 +101,116 @@ few_more m forms k c h =
       instances = omega (arith, h.instances, k.instances);
     }
 
--- Steps ------------------------------------------------------------------------------------------------------------------------------
+-- What is asked ----------------------------------------------------------------------------------------------------------------------
 
-facts_few : {theory goals proof : List ℕ} {T : TheoryLists} {B : Board} {n : Sizes} {m : Mark} {S : State} → Stands (texts theory goals proof) T B n m S → n.facts ≤ FACTS
-facts_few h = omega (arith, h.recorded.many, h.recorded.rows.row12)
+module _ (g : Given) (b : Board) (s : Store) {S : State} (h : StandsIn g b s S) where
+  pub facts_few : b.n.facts ≤ FACTS
+  facts_few = omega (arith, h.recorded.many, h.recorded.rows.row12)
 
--- no form is left: r is where the check stands then
-module _ {theory goals proof : List ℕ} {T : TheoryLists} {B D : Board} {s : Run} {S : State} (u : Underway theory goals proof T B s S) where
-  stepped_off : {cells ids memo : List ℕ} (r : Run) → r.fit ≡ s.fit → r.forms ≡ s.forms → r.sizes ≡ s.sizes → Over theory goals proof T D r S →
-      RowsStay B.facts B.footings D.facts D.footings s.sizes.facts s.sizes.facts → Idle cells ids memo →
-      Stepped theory goals proof T B D cells ids memo s S (stays r)
-  stepped_off r a b c o w i =
-      record {
-        after = S;
-        course = off o;
-        fit = a;
-        counted = nothing_more S.counts;
-        small = few_none;
-        few = λ d h. subst (Few (sum d none)) (sym b) (few_same s.forms d h);
-        idle = i;
-        same_rows = w.same_rows;
-        same_feet = w.same_feet;
-        stored_as = ap (λ (n : Sizes). n.facts) c;
-        room = subst (λ (n : Sizes). n.facts ≤ FACTS) (sym c) (facts_few u.stands);
-        sooner = λ g. absurd (true≢false (sym g ∙ o.over));
-      }
+  pub rows_long : length b.facts.now ≡ 6 * FACTS
+  rows_long = tabled_long (facts_tabled h.recorded)
 
-module _ {theory goals proof : List ℕ} {T : TheoryLists} {B : Board} {cells ids memo : List ℕ} {s : Run} (g : Ready theory goals proof T B cells ids memo s) where
+  pub feet_long : length b.footings.now ≡ 4 * FACTS
+  feet_long = tabled_long (footings_tabled h.recorded)
+
+  -- the tables stand for the same state
+  module _ (c : Board) (t : Store) (j : StandsIn g c t S) (e : c.n ≡ b.n) (k : t.mark ≡ s.mark) where
+    pub unmoved : Stands (texts_of g) (theory_of g) (tables_of c t) b.n s.mark S
+    unmoved = subst (λ (q : Sizes × Mark). Stands (texts_of g) (theory_of g) (tables_of c t) q.0 q.1 S) (λ i. (e i, k i)) j
+
+    pub unmoved_stay : Stay b c
+    unmoved_stay = let w = unmoved_rows h unmoved in record { same_rows = w.same_rows; same_feet = w.same_feet }
+
+module _ {g : Given} {b : Board} {s : Store} {at : ℕ} (r : Ready g b s at) {cells ids memo : List ℕ} (i : Idle cells ids memo) where
   cells_long : length cells ≡ LENGTH
-  cells_long = ap length g.idle.cells_zero ∙ length-replicate {A = ℕ} LENGTH 0
+  cells_long = ap length i.cells_zero ∙ length-replicate {A = ℕ} LENGTH 0
 
-  short : length proof ≤ LENGTH
-  short = g.underway.stands.spelling.short
+  short : length g.text.now ≤ LENGTH
+  short = r.underway.stands.spelling.short
 
-  clean : Clear cells
-  clean = g.idle.cells_zero ∙ ap (λ n. replicate n 0) (sym cells_long)
+  pub clean : Clear cells
+  clean = i.cells_zero ∙ ap (λ n. replicate n 0) (sym cells_long)
 
   -- what `read_form` asks
-  pub read_asks : ((s.at ≤ length proof) × (length proof ≤ LENGTH) × (length proof ≤ length cells)) × Clear cells
-  read_asks = ((g.underway.high, short, omega (arith, short, cells_long)), clean)
+  pub read_asks : (at ≤ length g.text.now) × (length g.text.now ≤ LENGTH) × (length g.text.now ≤ length cells)
+  read_asks = (r.underway.high, short, omega (arith, short, cells_long))
 
-  zeros_again : {v : List ℕ} → v ≡ replicate (length cells) 0 → Idle v ids memo
-  zeros_again e = record { cells_zero = e ∙ ap (λ n. replicate n 0) cells_long; ids_zero = g.idle.ids_zero; memo_zero = g.idle.memo_zero }
+  pub zeros_again : {v : List ℕ} → v ≡ replicate (length cells) 0 → Idle v ids memo
+  zeros_again e = record { cells_zero = e ∙ ap (λ n. replicate n 0) cells_long; ids_zero = i.ids_zero; memo_zero = i.memo_zero }
 
-  unmoved : RowsStay B.facts B.footings B.facts B.footings s.sizes.facts s.sizes.facts
-  unmoved = unmoved_rows g.underway.stands g.underway.stands
+  module _ {v : List ℕ} {o : Result (Option Form) Question} (k : ReadRight g.text.now at cells v o) where
+    -- no further form
+    pub at_the_end : o ≡ Ok nothing → OverIn g b s (Ok r.k) r.S × Idle v ids memo
+    at_the_end e = let a = at_end k e in (over_ended r.underway a.0, zeros_again a.1)
 
-  module _ {v : List ℕ} {r : Result (Option Form) Question} (k : ReadRight proof s.at cells v r) where
-    pub at_the_end : {o : Advance} {t : Run} → r ≡ Ok nothing → t ≡ ended_run s → o ≡ stays t → Stepped theory goals proof T B B v ids memo s g.S o
-    at_the_end e p q =
-        let a = at_end k e in
-        subst (λ o. Stepped theory goals proof T B B v ids memo s g.S o) (sym (q ∙ ap stays p))
-        (stepped_off g.underway (ended_run s) refl refl refl (over_ended g.underway a.0) unmoved (zeros_again a.1))
+    -- a question is left in what is read
+    pub at_unread : {q : Question} → o ≡ Err q → OverIn g b s (Err (left_in_proof q r.k)) r.S × Idle v ids memo
+    at_unread {q} e = let a = at_refused k e in (over_unread r.underway q a.1 a.0, zeros_again a.2)
 
-    pub at_unread : {o : Advance} {t : Run} {q : Question} → r ≡ Err q → t ≡ refused_run s (number_of q) (detail_of q) → o ≡ stays t →
-        Stepped theory goals proof T B B v ids memo s g.S o
-    at_unread {q = q} e p h =
-        let a = at_refused k e in
-        let f : refused_run s (number_of q) (detail_of q) ≡ refused_run s (number_of q) 0 = ap (refused_run s (number_of q)) a.1 in
-        subst (λ o. Stepped theory goals proof T B B v ids memo s g.S o) (sym (h ∙ ap stays (p ∙ f)))
-        (stepped_off g.underway (refused_run s (number_of q) 0) refl refl refl (over_unread g.underway (number_of q) a.0) unmoved (zeros_again a.2))
+    module _ {f : Form} (e : o ≡ Ok (some f)) where
+      abbrev form : FormIs g.text.now at cells v f.end f.cells
+      form = at_form k read_asks.2 e
 
-    -- what `take_read` asks
-    abbrev pub at_a_form : {f : Form} → r ≡ Ok (some f) → AtForm theory goals proof T B v ids memo s f.end f.cells
-    at_a_form e =
-        record {
-          S = g.S;
-          underway = g.underway;
-          zeros = cells;
-          zero = g.idle.cells_zero;
-          form = at_form k read_asks.0.2 e;
-          spare = record { ids_zero = g.idle.ids_zero; memo_zero = g.idle.memo_zero };
-        }
+      pub used_few : f.cells ≤ LENGTH
+      used_few = omega (arith, form.room, cells_long)
 
--- A form in its cells ------------------------------------------------------------------------------------------------------------------
+      pub used_inside : f.cells ≤ length v
+      used_inside =
+          let w : List ℕ = replicate (length cells - f.cells) 0 in
+          omega (arith, ap length form.cells, length-append (encode form.form) w, form.size)
 
-module _ {theory goals proof : List ℕ} {T : TheoryLists} {B : Board} {cells ids memo : List ℕ} {s : Run} {p used : ℕ}
-    (g : AtForm theory goals proof T B cells ids memo s p used) where
-  zeros_long : length g.zeros ≡ LENGTH
-  zeros_long = ap length g.zero ∙ length-replicate {A = ℕ} LENGTH 0
+      pub formed : Formed g.text.now (take f.cells v) form.form
+      unfolding encode
+      formed = record { encoded = form.holds.cells ∙ append-nil (encode form.form); spelt = form.holds.spelt.0 }
 
-  pub used_few : used ≤ LENGTH
-  used_few = omega (arith, g.form.room, zeros_long)
+      -- what `take_form` asks
+      abbrev pub form_asks : TakesFormIn g b s (take f.cells v)
+      form_asks = record { S = r.S; x = form.form; stands = r.underway.stands; bounded = r.underway.bounded.bounded; formed = formed }
 
-  pub used_inside : used ≤ length cells
-  used_inside =
-      let w : List ℕ = replicate (length g.zeros - used) 0 in
-      omega (arith, ap length g.form.cells, length-append (encode g.form.form) w, g.form.size)
-
-  pub formed : Formed proof (take used cells) g.form.form
-  unfolding encode
-  formed = record { encoded = g.form.holds.cells ∙ append-nil (encode g.form.form); spelt = g.form.holds.spelt.0 }
-
-  -- what `take_form` asks
-  abbrev pub form_asks : TakesForm (texts theory goals proof) T B s.sizes s.mark (take used cells)
-  form_asks = record { S = g.S; x = g.form.form; stands = g.underway.stands; bounded = g.underway.bounded.bounded; formed = formed }
-
-  forms_few : s.forms < LENGTH
-  forms_few = omega (arith, g.underway.few, g.form.on, g.form.within, g.underway.stands.spelling.short)
-
-  cleared : {cells' ids' memo' : List ℕ} → cells' ≡ replicate used 0 ++ drop used cells → ids' ≡ ids → memo' ≡ memo → Idle cells' ids' memo'
-  cleared {cells'} e l m =
-      record {
-        cells_zero = form_cleared g.form cells' e ∙ ap (λ n. replicate n 0) zeros_long;
-        ids_zero = l ∙ g.spare.ids_zero;
-        memo_zero = m ∙ g.spare.memo_zero;
-      }
-
-  -- D: the tables afterwards
-  module _ (D : Board) where
-    abbrev Answers : Taken → Type 0
-    Answers r = TakenAs (texts theory goals proof) T D s.sizes s.mark g.S (take_form g.form.form g.S) r
-
-    -- the tables of facts, whatever was answered
-    rows_long : (r : Taken) → Answers r → (length D.facts ≡ 6 * FACTS) × (length D.footings ≡ 4 * FACTS)
-    rows_long (taken_as.Ok k m c) h = (tabled_long (facts_tabled h.stands.recorded), tabled_long (footings_tabled h.stands.recorded))
-    rows_long (taken_as.No q d) h = (tabled_long (facts_tabled h.1.recorded), tabled_long (footings_tabled h.1.recorded))
-
-    fitting : (r : Taken) → Answers r → Fitting s r
-    fitting (taken_as.Ok k m c) h = (facts_few h.stands, forms_few)
-    fitting (taken_as.No q d) h = tt
-
-    -- what `taken` asks
-    pub taken_asks : (r : Taken) → Answers r → (length D.facts ≡ 6 * FACTS) × (length D.footings ≡ 4 * FACTS) × Fitting s r
-    taken_asks r h = ((rows_long r h).0, (rows_long r h).1, fitting r h)
-
-    module _ {cells' ids' memo' : List ℕ} (i : Idle cells' ids' memo') where
-      moved_on : (k : Sizes) (m : Mark) (c : Counted) →
-          Moves (texts theory goals proof) T D k m (take_form g.form.form g.S) (plus g.S.counts (counts_of c)) →
-          Stepped theory goals proof T B D cells' ids' memo' s g.S (moves_on s p D.facts D.footings k m c)
-      moved_on k m c h =
-          let w = taken_rows g.underway.stands h.stands g.form.form h.is in
-          let n = taken_few g.form.form g.S h.after (counts_of c) h.is h.counted in
-          let o = few_one c (length (encode g.form.form)) n (omega (arith, g.form.size, used_few)) in
-          let l = rows_long (taken_as.Ok k m c) h in
+      pub cleared : {x ids' memo' : List ℕ} → x ≡ replicate f.cells 0 ++ drop f.cells v → ids' ≡ ids → memo' ≡ memo → Idle x ids' memo'
+      cleared {x} z l m =
           record {
-            after = h.after;
-            course = on (underway_on g.underway g.form h.is h.stands);
-            fit = refl;
-            counted = h.counted;
-            small = o;
-            few = few_more c s.forms o;
-            idle = i;
-            same_rows = w.same_rows;
-            same_feet = w.same_feet;
-            stored_as = stored_is D.facts D.footings s.sizes.facts k.facts l.0 l.1 (facts_few h.stands) w.many;
-            room = facts_few h.stands;
-            sooner = λ z. g.form.on;
+            cells_zero = form_cleared form x z ∙ ap (λ n. replicate n 0) cells_long;
+            ids_zero = l ∙ i.ids_zero;
+            memo_zero = m ∙ i.memo_zero;
           }
 
-      answered : (r : Taken) → Answers r → Stepped theory goals proof T B D cells' ids' memo' s g.S (taken_on s p D.facts D.footings r)
-      answered (taken_as.Ok k m c) h = moved_on k m c h
-      answered (taken_as.No q d) h =
-          stepped_off g.underway (refused_run s q d) refl refl refl (over_form g.underway g.form q d h.0.until h.1 h.0.is)
-          (unmoved_rows g.underway.stands h.1) i
+      -- c, t: the tables and the store afterwards
+      module _ (c : Board) (t : Store) where
+        -- it is refused
+        module _ (q : Question) (a : TakenIn g b c s t r.S (take_form form.form r.S) (Err q)) where
+          pub form_refused : OverIn g c t (Err (left_in_proof q r.k)) r.S
+          form_refused =
+              subst (λ (z : Sizes × Mark). Over g.theory.now g.goals.now g.text.now (theory_of g) (tables_of c t) z.0 z.1 (Err (left_in_proof q r.k)) r.S)
+              (λ i. (sym a.2 i, sym a.3 i))
+              (over_form r.underway form q a.0.until (unmoved g b s r.underway.stands c t a.1 a.2 a.3) a.0.is)
 
-    -- what `take_read` leaves
-    pub form_answered : {cells' ids' memo' : List ℕ} (r : Taken) {o : Advance} → Answers r → cells' ≡ replicate used 0 ++ drop used cells →
-        ids' ≡ ids → memo' ≡ memo → o ≡ taken_on s p D.facts D.footings r → Stepped theory goals proof T B D cells' ids' memo' s g.S o
-    form_answered {cells'} {ids'} {memo'} r h e l m q =
-        subst (λ o. Stepped theory goals proof T B D cells' ids' memo' s g.S o) (sym q) (answered (cleared e l m) r h)
+          pub refused_stay : Stay b c
+          refused_stay = unmoved_stay g b s r.underway.stands c t a.1 a.2 a.3
+
+        -- it is taken
+        module _ (d : Counted) (a : TakenIn g b c s t r.S (take_form form.form r.S) (Ok d)) where
+          pub stored_asks : (length c.facts.now ≡ 6 * FACTS) × (length c.footings.now ≡ 4 * FACTS) × (c.n.facts ≤ FACTS)
+          stored_asks = (rows_long g c t a.stands, feet_long g c t a.stands, facts_few g c t a.stands)
+
+          pub taken_stay : Stay b c
+          taken_stay =
+              let w = taken_rows r.underway.stands a.stands form.form a.is in record { same_rows = w.same_rows; same_feet = w.same_feet }
+
+          pub form_taken : {o : Option Fact} → o ≡ stored_at (ltb b.n.facts c.n.facts) c.facts.now c.footings.now b.n.facts →
+              Stepped g b c t r.k at r.S (record { end = f.end; fact = o; counts = d })
+          form_taken e =
+              let w = taken_rows r.underway.stands a.stands form.form a.is in
+              let n = taken_few form.form r.S a.after (counts_of d) a.is a.counted in
+              let z = few_one d (length (encode form.form)) n (omega (arith, form.size, used_few)) in
+              record {
+                after = a.after;
+                underway = underway_on r.underway form a.is a.stands;
+                counted = a.counted;
+                small = z;
+                few = few_more d r.k z;
+                stored_as = subst (λ p. StoredAs p b.n.facts c.n.facts c.facts.now c.footings.now) (sym e)
+                    (stored_is c.facts.now c.footings.now b.n.facts c.n.facts stored_asks.0 stored_asks.1 stored_asks.2 w.many);
+                room = stored_asks.2;
+                sooner = form.on;
+              }

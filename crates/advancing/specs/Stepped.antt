@@ -1,50 +1,77 @@
--- What one form is given and what it leaves, in tables of just their named lengths. Assumes nothing.
-use Rattle.std.specs.Prelude.{◌≡◌, true, List, ℕ, ◌*◌, ◌<◌, ◌≤◌, take, replicate}
-use Rattle.rules.specs.Limits.{LENGTH, FACTS}
+-- What one form is given and what it leaves, in tables of their named lengths. Assumes nothing.
+use Rattle.std.specs.Prelude.{◌≡◌, List, ℕ, ◌+◌, ◌*◌, ◌<◌, ◌≤◌, take, replicate, Option, Some as some, None as nothing, Result, Ok, Err}
+use Rattle.rules.specs.Limits.{LENGTH, TERMS, FACTS}
 use Rattle.rules.specs.State.{State}
 use Rattle.rules.specs.Forms.{plus}
-use Rattle.sexp.specs.ReadLaws.{FormIs}
-use Rattle.kernel.specs.Parsed.{TheoryLists}
-use Rattle.state.specs.Stands.{Board}
+use Rattle.questions.specs.declared.Question.{Question}
+use Rattle.terms.specs.declared.store.Store.{Store}
+use Rattle.state.specs.declared.board.Given.{Given}
+use Rattle.state.specs.declared.board.Board.{Board}
 use Rattle.counts.specs.declared.Counts.{Counts}
 use Rattle.counts.specs.Counted.{counts_of}
 use Rattle.counts.specs.Sum.{sum}
-use Rattle.entering.specs.Entered.{Spare}
-use Rattle.running.specs.declared.run.Run.{Run}
-use Rattle.running.specs.Course.{Underway, Course}
-use Rattle.running.specs.Between.{Idle, Few, StoredAs}
+use Rattle.induction.specs.Inducing.{IDS}
+use Rattle.forms.specs.Boards.{theory_of, tables_of}
+use Rattle.running.specs.declared.stopped.Text.TheVariants.{Proof}
+use Rattle.running.specs.declared.stopped.Stopped.{Stopped}
+use Rattle.running.specs.Course.{Underway, Over}
+use Rattle.running.specs.Between.{Few, StoredAs}
+use Rattle.advancing.specs.declared.advance.Scratch.{Scratch}
 use Rattle.advancing.specs.declared.advance.Advance.{Advance}
+
+-- The scratch of the forms ---------------------------------------------------------------------------------------------------------
+
+-- between two of them
+pub record Idle (cells ids memo : List ℕ) : Type 0 where
+  pub cells_zero : cells ≡ replicate LENGTH 0
+  pub ids_zero : ids ≡ replicate IDS 0
+  pub memo_zero : memo ≡ replicate TERMS 0
+
+abbrev pub IdleIn : Scratch → Type 0
+IdleIn x = Idle x.cells.now x.ids.now x.memo.now
+
+-- the references are those that were lent
+abbrev pub SameScratch : Scratch → Scratch → Type 0
+SameScratch x y = (y.cells.ghost_name ≡ x.cells.ghost_name) × (y.ids.ghost_name ≡ x.ids.ghost_name) × (y.memo.ghost_name ≡ x.memo.ghost_name)
 
 -- Given ----------------------------------------------------------------------------------------------------------------------------
 
--- a form may be left
-pub record Ready (theory goals proof : List ℕ) (T : TheoryLists) (B : Board) (cells ids memo : List ℕ) (s : Run) : Type 0 where
-  pub S : State
-  pub underway : Underway theory goals proof T B s S
-  pub idle : Idle cells ids memo
+abbrev pub UnderwayIn : Given → Board → Store → ℕ → ℕ → State → Type 0
+UnderwayIn g b s p k S = Underway g.theory.now g.goals.now g.text.now (theory_of g) (tables_of b s) b.n s.mark p k S
 
--- the next form is in its cells: it ends before p, and has `used` of them
-pub record AtForm (theory goals proof : List ℕ) (T : TheoryLists) (B : Board) (cells ids memo : List ℕ) (s : Run) (p used : ℕ) : Type 0 where
+abbrev pub OverIn : Given → Board → Store → Result ℕ Stopped → State → Type 0
+OverIn g b s r S = Over g.theory.now g.goals.now g.text.now (theory_of g) (tables_of b s) b.n s.mark r S
+
+-- a form may be left from place p on, behind k forms
+pub record Ready (g : Given) (b : Board) (s : Store) (p : ℕ) : Type 0 where
+  pub k : ℕ
   pub S : State
-  pub underway : Underway theory goals proof T B s S
-  pub zeros : List ℕ
-  pub zero : zeros ≡ replicate LENGTH 0
-  pub form : FormIs proof s.at zeros cells p used
-  pub spare : Spare ids memo
+  pub underway : UnderwayIn g b s p k S
 
 -- Left ---------------------------------------------------------------------------------------------------------------------------------
 
--- S: the state before; B, D: the tables before and afterwards; o: what is handed on
-pub record Stepped (theory goals proof : List ℕ) (T : TheoryLists) (B D : Board) (cells ids memo : List ℕ) (s : Run) (S : State) (o : Advance) : Type 0 where
+-- the rows of facts that there were stay
+pub record Stay (b c : Board) : Type 0 where
+  pub same_rows : take (6 * b.n.facts) c.facts.now ≡ take (6 * b.n.facts) b.facts.now
+  pub same_feet : take (4 * b.n.facts) c.footings.now ≡ take (4 * b.n.facts) b.footings.now
+
+-- a form is taken that began at p; S: the state before; c, t: the tables and the store afterwards
+pub record Stepped (g : Given) (b c : Board) (t : Store) (k p : ℕ) (S : State) (a : Advance) : Type 0 where
   pub after : State
-  pub course : Course theory goals proof T D o.next after
-  pub fit : o.next.fit ≡ s.fit
-  pub counted : after.counts ≡ plus S.counts (counts_of o.more)
-  pub small : Few o.more 1
-  pub few : (c : Counts) → Few c s.forms → Few (sum c o.more) o.next.forms
-  pub idle : Idle cells ids memo
-  pub same_rows : take (6 * s.sizes.facts) D.facts ≡ take (6 * s.sizes.facts) B.facts
-  pub same_feet : take (4 * s.sizes.facts) D.footings ≡ take (4 * s.sizes.facts) B.footings
-  pub stored_as : StoredAs o.stored s.sizes.facts o.next.sizes.facts D.facts D.footings o.fact
-  pub room : o.next.sizes.facts ≤ FACTS
-  pub sooner : (o.next.going ≡ true → s.at < o.next.at)
+  pub underway : UnderwayIn g c t a.end (k + 1) after
+  pub counted : after.counts ≡ plus S.counts (counts_of a.counts)
+  pub small : Few a.counts 1
+  pub few : (c : Counts) → Few c k → Few (sum c a.counts) (k + 1)
+  pub stored_as : StoredAs a.fact b.n.facts c.n.facts c.facts.now c.footings.now
+  pub room : c.n.facts ≤ FACTS
+  pub sooner : p < a.end
+
+-- the question is left in the proof behind k forms
+abbrev pub left_in_proof : Question → ℕ → Stopped
+left_in_proof q k = record { text = Proof; refused = record { question = q; form = k } }
+
+-- a form is taken, there is none, or a question is left
+abbrev pub AdvancedAs : Given → Board → Board → Store → Store → ℕ → ℕ → State → Result (Option Advance) Question → Type 0
+AdvancedAs g b c s t k p S (Ok (some a)) = Stepped g b c t k p S a
+AdvancedAs g b c s t k p S (Ok nothing) = OverIn g c t (Ok k) S × (c.n ≡ b.n)
+AdvancedAs g b c s t k p S (Err q) = OverIn g c t (Err (left_in_proof q k)) S × (c.n ≡ b.n)

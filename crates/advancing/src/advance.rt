@@ -1,38 +1,99 @@
-// What one form hands on, by value: where the check stands then, whether a fact was stored and which, what the form counts.
-ghost use Rattle.std.specs.Prelude.{◌≡◌};
+// One form of the proof: the next one is read into cells, taken, and the cells are cleared again.
+ghost use Rattle.std.specs.Prelude.{◌≡◌, ◌*◌, ◌<◌, ◌≤◌, ltb, length};
+ghost use Rattle.rules.specs.Limits.{FACTS};
+ghost use Rattle.terms.specs.Lent.{SameTables};
+ghost use Rattle.forms.specs.Boards.{SameBoard};
+ghost use Rattle.advancing.specs.Handed.{record_at, stored_at};
+ghost use Rattle.advancing.specs.Stepped.{IdleIn, SameScratch, Ready, AdvancedAs, Stay};
 
 use counts::Counts;
 use facts::Fact;
-use running::run::Run;
+use questions::Question;
+use sexp::sexp::{clear, read_form};
+use state::board::{Board, Given};
+use taking::take::take_form;
+use terms::store::Store;
 
+// The scratch of the forms, zero before and after each: the cells of a form, numbers, and places of terms.
+#[derive(Drop)]
+pub struct Scratch<'a> {
+    pub cells: &'a mut [u32],
+    pub ids: &'a mut [u32],
+    pub memo: &'a mut [u32],
+}
+
+// A form that was taken: where the next one begins, the fact that it stored, and what it counts.
 #[derive(Clone, Copy)]
 pub struct Advance {
-    pub next: Run,
-    pub stored: bool,
-    pub fact: Fact,
-    pub more: Counts,
+    pub end: usize,
+    pub fact: Option<Fact>,
+    pub counts: Counts,
 }
 
-pub fn next_of(o: Advance) -> Run
-    ensures { result ≡ o.next }
+// Row i of the facts, with the words of its footing, as a record.
+fn fact_in(facts: &[u32], footings: &[u64], i: usize) -> Fact
+    requires { (length facts.now ≡ 6 * FACTS) × (length footings.now ≡ 4 * FACTS) × (i < FACTS) }
+    ensures { result ≡ record_at facts.now footings.now i }
 {
-    o.next
+    let at = 6 * i;
+    let word = 4 * i;
+    let footing: [u64; 4] = [
+        footings[word],
+        footings[word + 1],
+        footings[word + 2],
+        footings[word + 3],
+    ];
+    Fact {
+        judgment: facts[at],
+        assumed: facts[at + 1],
+        first: facts[at + 2],
+        hyps: facts[at + 3],
+        premises: facts[at + 4],
+        general: facts[at + 5],
+        footing: footing,
+    }
 }
 
-pub fn stored_of(o: Advance) -> bool
-    ensures { result ≡ o.stored }
+// The fact that was stored since there were n: it is in the first row that was free then.
+fn stored(board: &Board<'_>, n: usize) -> Option<Fact>
+    requires { (length board.now.facts.now ≡ 6 * FACTS) × (length board.now.footings.now ≡ 4 * FACTS) × (board.now.n.facts ≤ FACTS) }
+    ensures { result ≡ stored_at (ltb n board.now.n.facts) board.now.facts.now board.now.footings.now n }
 {
-    o.stored
+    if n < board.n.facts {
+        return Some(fact_in(board.facts, board.footings, n));
+    }
+    None
 }
 
-pub fn fact_of(o: Advance) -> Fact
-    ensures { result ≡ o.fact }
+// The form that begins at a place of the proof; none where there is no further one.
+pub fn next_form(
+    given: &Given<'_>,
+    board: &mut Board<'_>,
+    store: &mut Store<'_>,
+    scratch: &mut Scratch<'_>,
+    at: usize,
+) -> Result<Option<Advance>, Question>
+    requires ready { Ready given.now board.old store.old at }
+    requires idle { IdleIn scratch.old }
+    ensures same_tables { SameBoard board.old board.new × SameTables store.old store.new × SameScratch scratch.old scratch.new }
+    ensures advanced { (g : Ready given.now board.old store.old at) →
+        AdvancedAs given.now board.old board.new store.old store.new g.k at g.S result }
+    ensures stay { Stay board.old board.new }
+    ensures idle_again { IdleIn scratch.new }
 {
-    o.fact
-}
-
-pub fn more_of(o: Advance) -> Counts
-    ensures { result ≡ o.more }
-{
-    o.more
+    let cells = &mut *scratch.cells;
+    let ids = &mut *scratch.ids;
+    let memo = &mut *scratch.memo;
+    let Some(form) = read_form(given.text, at, cells)? else {
+        return Ok(None);
+    };
+    let n = board.n.facts;
+    let taken = take_form(given, board, store, &cells[..form.cells], ids, memo);
+    clear(cells, form.cells);
+    let counts = taken?;
+    Ok(Some(Advance {
+        end: form.end,
+        fact: stored(board, n),
+        counts,
+    }))
 }

@@ -2,7 +2,7 @@
 use mathlib.Core.Path.{◌≡◌, refl, sym, ap, ◌∙◌, subst}
 use mathlib.Core.Bool.{Bool, true, false}
 use mathlib.Core.List.{List}
-use Prim.Native.Nat.{ℕ, zero, suc, ◌≤◌}
+use Prim.Native.Nat.{ℕ, ◌≤◌}
 use native.Mathlib.Omega.{arith}
 use borrow.Author.Tests.{leb-true}
 use lib.ListN.{length}
@@ -10,9 +10,13 @@ use Rattle.rules.specs.Limits.{LENGTH}
 use Rattle.rules.specs.Text.{short, plain}
 use Rattle.rules.specs.Check.{first_failing, readable, fitting, check}
 use Rattle.kernel.specs.Parsed.{verdict}
-use Rattle.beginning.specs.Asking.{Plain, LeftIn, AskedAs}
-use Rattle.beginning.specs.declared.texts.Asked.{Asked}
-use Rattle.beginning.specs.declared.texts.Asked.TheVariants as asked
+use Rattle.std.specs.Prelude.{Option, Some as some, None as nothing}
+use Rattle.questions.specs.declared.Question.TheVariants as question
+use Rattle.running.specs.declared.stopped.Text.{Text}
+use Rattle.running.specs.declared.stopped.Text.TheVariants as text
+use Rattle.running.specs.declared.stopped.Stopped.{Stopped}
+use Rattle.running.specs.Stopped.{text_number}
+use Rattle.beginning.specs.Asking.{number_in, left_in, Plain, LeftIn}
 
 -- The first that fails ---------------------------------------------------------------------------------------------------------------
 
@@ -53,33 +57,26 @@ unfolding short
 short_text text e = leb-true _ LENGTH e
 
 module _ {t g f : List ℕ} where
-  pub left_long : (k : ℕ) → k ≡ first_failing short t g f → (k ≡ 0 → ⊥) → LeftIn t g f 2 k
+  pub left_long : (x : Text) → text_number x ≡ first_failing short t g f → {s : Stopped} → s ≡ left_in x question.Length → LeftIn t g f s
   unfolding check fitting
-  left_long zero e q = absurd (q refl)
-  left_long (suc k) e q = record { some = q; is = ap (fitting t g f) e }
+  left_long text.Theory e w = subst (LeftIn t g f) (sym w) (record { is = ap (fitting t g f) e })
+  left_long text.Goals e w = subst (LeftIn t g f) (sym w) (record { is = ap (fitting t g f) e })
+  left_long text.Proof e w = subst (LeftIn t g f) (sym w) (record { is = ap (fitting t g f) e })
 
-  module _ {j : ℕ} (e : j ≡ first_failing short t g f) (z : j ≡ 0) where
-    pub left_odd : (k : ℕ) → k ≡ first_failing plain t g f → (k ≡ 0 → ⊥) → LeftIn t g f 3 k
+  module _ (e : 0 ≡ first_failing short t g f) where
+    pub left_odd : (x : Text) → text_number x ≡ first_failing plain t g f → {s : Stopped} → s ≡ left_in x question.Bytes → LeftIn t g f s
     unfolding check fitting readable
-    left_odd zero a q = absurd (q refl)
-    left_odd (suc k) a q = record { some = q; is = ap (readable t g f) a ∙ ap (fitting t g f) (sym z ∙ e) }
+    left_odd text.Theory a w = subst (LeftIn t g f) (sym w) (record { is = ap (readable t g f) a ∙ ap (fitting t g f) e })
+    left_odd text.Goals a w = subst (LeftIn t g f) (sym w) (record { is = ap (readable t g f) a ∙ ap (fitting t g f) e })
+    left_odd text.Proof a w = subst (LeftIn t g f) (sym w) (record { is = ap (readable t g f) a ∙ ap (fitting t g f) e })
 
-    pub none_left : {k : ℕ} → k ≡ first_failing plain t g f → k ≡ 0 → Plain t g f
+    pub none_left : 0 ≡ first_failing plain t g f → Plain t g f
     unfolding check fitting readable verdict
-    none_left a y =
-        let s = none_fails short t g f (sym e ∙ z) in
+    none_left a =
+        let s = none_fails short t g f (sym e) in
         record {
           short_theory = short_text t s.0;
           short_goals = short_text g s.1;
           short_proof = short_text f s.2;
-          is = ap (readable t g f) (sym y ∙ a) ∙ ap (fitting t g f) (sym z ∙ e);
+          is = ap (readable t g f) a ∙ ap (fitting t g f) e;
         }
-
--- The answer ---------------------------------------------------------------------------------------------------------------------------
-
-module _ {t g f : List ℕ} {r : Asked} (a : AskedAs t g f r) where
-  pub asked_left : {q k : ℕ} → r ≡ asked.Left q k → LeftIn t g f q k
-  asked_left e = subst (AskedAs t g f) e a
-
-  pub asked_nothing : r ≡ asked.Nothing → Plain t g f
-  asked_nothing e = subst (AskedAs t g f) e a

@@ -13,14 +13,13 @@ use Rattle.rules.specs.Laws.Declare.{nothing_formed}
 use Rattle.kernel.specs.Parsed.{TheoryLists, theory_lists, Exact, counts_of, theory_tables, LaidHeld}
 use Rattle.kernel.specs.Layout.{tables_exact}
 use Rattle.kernel.specs.declared.tables.Counts.{Counts}
+use Rattle.terms.specs.declared.store.Mark.{Mark}
 use Rattle.terms.specs.Laws.Empty.{good_empty, made_empty}
 use Rattle.state.specs.declared.sizes.Sizes.{Sizes}
 use Rattle.state.specs.Filled.{filled_none}
 use Rattle.state.specs.Stands.{texts, Board, board, Stands, stands_begin}
-use Rattle.running.specs.Lent.{Working, working}
-use Rattle.running.specs.Run.{no_sizes, no_mark}
-use Rattle.beginning.specs.Lengths.{ExactWorking, no_working, theory_sizes}
-use Rattle.beginning.specs.Opened.{no_board, Lending, Opening}
+use Rattle.beginning.specs.Lengths.{no_sizes, no_mark, theory_sizes}
+use Rattle.beginning.specs.Opened.{no_board, Lending, Cleared}
 
 -- One table ------------------------------------------------------------------------------------------------------------------------
 
@@ -80,42 +79,32 @@ nothing_held text =
 
 -- The others -------------------------------------------------------------------------------------------------------------------------
 
-pub working_cleared : (W : Working) → ExactWorking W → (a b c d e f : List ℕ) → a ≡ replicate (length W.vars) 0 → b ≡ replicate (length W.index) 0 →
-    c ≡ replicate (length W.words) 0 → d ≡ replicate (length W.defs) 0 → e ≡ replicate (length W.goals) 0 →
-    f ≡ replicate (length W.lists) 0 → working a b c d e f ≡ no_working
-working_cleared W x a b c d e f p q r s u v =
-    λ i. working (zeros_of (4 * VARIABLES) p x.vars i) (zeros_of (4 * TERMS) q x.index i) (zeros_of WORDS r x.words i)
-    (zeros_of (3 * DEFS) s x.defs i) (zeros_of (6 * GOALS) u x.goals i) (zeros_of ENTRIES v x.lists i)
-
-pub missing_cleared : (M : List ℕ) {y : List ℕ} → length M ≡ GOALS → y ≡ replicate (length M) 0 → y ≡ replicate GOALS 0
-missing_cleared M l e = zeros_of GOALS e l
-
-pub opening : {T : TheoryLists} {W : Working} {M facts footings cells : List ℕ} (h : Lending T W M facts footings cells) (U : Working) → U ≡ no_working →
-    Opening T (board U.vars U.index U.words U.defs U.goals facts footings U.lists) cells
-opening h U w =
-    record {
-      theory = h.theory;
-      none = λ i. board (w i).vars (w i).index (w i).words (w i).defs (w i).goals (h.facts_zero i) (h.footings_zero i) (w i).lists;
-      cells_zero = h.cells_zero;
-    }
+pub board_cleared : (B : Board) → Lending B → (a b c d e f : List ℕ) → a ≡ replicate (length B.vars) 0 → b ≡ replicate (length B.index) 0 →
+    c ≡ replicate (length B.words) 0 → d ≡ replicate (length B.defs) 0 → e ≡ replicate (length B.goals) 0 →
+    f ≡ replicate (length B.lists) 0 → board a b c d e B.facts B.footings f ≡ no_board
+board_cleared B h a b c d e f p q r s u v =
+    let x = h.exact in
+    λ i. board (zeros_of (4 * VARIABLES) p x.vars i) (zeros_of (4 * TERMS) q x.index i) (zeros_of WORDS r x.words i)
+    (zeros_of (3 * DEFS) s x.defs i) (zeros_of (6 * GOALS) u x.goals i) (h.facts_zero i) (h.footings_zero i) (zeros_of ENTRIES v x.lists i)
 
 -- What stands then -------------------------------------------------------------------------------------------------------------------
 
 -- D: what was declared
-module _ {theory goals text : List ℕ} {D : Theory} {T : TheoryLists} {B : Board} (w : WellFormed D) (h : LaidHeld theory D) (l : length text ≤ LENGTH)
-    (t : T ≡ theory_tables D) (b : B ≡ no_board) where
-  begins : Stands (texts theory goals text) T B (theory_sizes (counts_of D)) no_mark (begin D)
+module _ {theory goals text : List ℕ} {D : Theory} {T : TheoryLists} {B : Board} {m : Mark} (w : WellFormed D) (h : LaidHeld theory D) (l : length text ≤ LENGTH)
+    (t : T ≡ theory_tables D) (b : B ≡ no_board) (k : m ≡ no_mark) where
+  begins : Stands (texts theory goals text) T B (theory_sizes (counts_of D)) m (begin D)
   unfolding entries goal_entries all_entries
   begins =
-      subst (λ U. Stands (texts theory goals text) U B (theory_sizes (counts_of D)) no_mark (begin D)) (sym t)
-      (subst (λ C. Stands (texts theory goals text) (theory_tables D) C (theory_sizes (counts_of D)) no_mark (begin D)) (sym b)
-      (stands_begin w h l good_empty (made_empty (replicate (4 * TERMS) 0) (replicate WORDS 0))))
+      subst (λ U. Stands (texts theory goals text) U B (theory_sizes (counts_of D)) m (begin D)) (sym t)
+      (subst (λ C. Stands (texts theory goals text) (theory_tables D) C (theory_sizes (counts_of D)) m (begin D)) (sym b)
+      (subst (λ j. Stands (texts theory goals text) (theory_tables D) no_board (theory_sizes (counts_of D)) j (begin D)) (sym k)
+      (stands_begin w h l good_empty (made_empty (replicate (4 * TERMS) 0) (replicate WORDS 0)))))
 
-  pub theory_stands : {n : Sizes} {c : Counts} → n ≡ theory_sizes c → c ≡ counts_of D → Stands (texts theory goals text) T B n no_mark (begin D)
+  pub theory_stands : {n : Sizes} {c : Counts} → n ≡ theory_sizes c → c ≡ counts_of D → Stands (texts theory goals text) T B n m (begin D)
   theory_stands e f =
-      subst (λ n. Stands (texts theory goals text) T B n no_mark (begin D)) (sym (e ∙ ap theory_sizes f)) begins
+      subst (λ n. Stands (texts theory goals text) T B n m (begin D)) (sym (e ∙ ap theory_sizes f)) begins
 
-pub nothing_stands : {T : TheoryLists} {B : Board} → T ≡ theory_tables no_theory → B ≡ no_board → {n : Sizes} → n ≡ no_sizes →
-    Stands (texts [] [] []) T B n no_mark (begin no_theory)
-nothing_stands {T} {B} t b {n} e =
-    subst (λ k. Stands (texts [] [] []) T B k no_mark (begin no_theory)) (sym e) (begins nothing_formed (nothing_held []) (omega arith) t b)
+pub nothing_stands : {T : TheoryLists} {B : Board} {n : Sizes} {m : Mark} → T ≡ theory_tables no_theory → Cleared B n m →
+    Stands (texts [] [] []) T B n m (begin no_theory)
+nothing_stands {T} {B} {n} {m} t z =
+    subst (λ k. Stands (texts [] [] []) T B k m (begin no_theory)) (sym z.sizes) (begins nothing_formed (nothing_held []) (omega arith) t z.none z.mark)

@@ -1,7 +1,5 @@
 pub mod Asks
 pub mod Blank
-pub mod Fitting
-pub mod Lends
-pub mod Opens
 pub mod Posing
+pub mod Opens
 pub mod Turns

@@ -2,9 +2,9 @@
 use mathlib.Core.Path.{◌≡◌, refl, sym, ap, ◌∙◌, subst}
 use mathlib.Core.Bool.{Bool, true, false}
 use mathlib.Core.List.{List, []}
-use Prim.Native.Nat.{ℕ, zero, suc, ◌≤◌}
+use Prim.Native.Nat.{ℕ, ◌≤◌}
 use native.Mathlib.Omega.{arith}
-use lib.Dec.{eqb}
+use borrow.Author.Tests.{eq-eqb, ne_eqb}
 use lib.ListN.{length, replicate, length-replicate}
 use Rattle.rules.specs.Limits.{LENGTH}
 use Rattle.rules.specs.Sexp.{read}
@@ -24,19 +24,19 @@ use Rattle.questions.specs.Numbers.{number_of, detail_of}
 use Rattle.terms.specs.declared.store.Mark.{Mark}
 use Rattle.state.specs.declared.sizes.Sizes.{Sizes}
 use Rattle.state.specs.Stands.{Texts, texts, Board, Stands, stands_proof}
-use Rattle.running.specs.declared.run.Run.{Run}
-use Rattle.running.specs.Run.{no_sizes, no_mark, stopped_run, started_run}
-use Rattle.running.specs.Course.{on, off, outcome_by}
+use Rattle.running.specs.declared.stopped.Stopped.{Stopped}
+use Rattle.running.specs.declared.stopped.Text.TheVariants as text
+use Rattle.running.specs.Stopped.{text_number}
+use Rattle.running.specs.Course.{outcome_of}
 use Rattle.beginning.specs.Asking.{Plain, LeftIn}
 use Rattle.beginning.specs.Lengths.{theory_sizes}
-use Rattle.beginning.specs.Posed.{theory_in, Posing, Fresh, Posed}
-use Rattle.beginning.specs.Opened.{Opening, Opened}
+use Rattle.beginning.specs.Posed.{theory_in, Posing, Fresh, PosedAs, Posed}
+use Rattle.beginning.specs.Opened.{Opening, Cleared, Opened}
 use Rattle.beginning.proofs.Blank.{theory_stands, nothing_stands}
-use Rattle.beginning.proofs.Turns.{run_of}
 
 -- what follows question 25
-abbrev outcome_of : List ℕ → ℕ → State → Bool → Outcome
-outcome_of proof k S b = elim b [ true ↦ refused_in 2 25 0 k S | false ↦ after_proof (through take_form (read proof) 0 S) ]
+abbrev outcome_by : List ℕ → ℕ → State → Bool → Outcome
+outcome_by proof k S b = elim b [ true ↦ refused_in 2 25 0 k S | false ↦ after_proof (through take_form (read proof) 0 S) ]
 
 -- What the theory is given -------------------------------------------------------------------------------------------------------------
 
@@ -45,84 +45,73 @@ legible h z =
     let l = ap length z ∙ length-replicate {A = ℕ} LENGTH 0 in
     record { short = h; fits = omega (arith, l, h); clear = z ∙ ap (λ n. replicate n 0) (sym l) }
 
-pub theory_given : {theory goals proof cells : List ℕ} {T : TheoryLists} {B : Board} → Opening T B cells → Plain theory goals proof → Legible theory cells × Exact T
-theory_given o p = (legible p.short_theory o.cells_zero, o.theory)
+pub theory_given : {theory goals proof cells : List ℕ} {T : TheoryLists} {B : Board} → Opening T B cells → Plain theory goals proof → Legible theory cells
+theory_given o p = legible p.short_theory o.cells_zero
 
 -- A question is left -----------------------------------------------------------------------------------------------------------------
 
-module _ {theory goals proof : List ℕ} {T : TheoryLists} {B : Board} where
-  stops : {X : Texts} {n : Sizes} {m : Mark} {S : State} {q k d : ℕ} → Stands X T B n m S → S.counts ≡ no_counts → S.facts ≡ [] → (t : ℕ) → (t ≡ 0 → ⊥) →
-      refused_in t q d k S ≡ check theory goals proof → {r : Run} → r ≡ stopped_run n m q t k d → Opened theory goals proof T B r
-  unfolding outcome_by
-  stops h c f zero z e q = absurd (z refl)
-  stops {X} {n} {m} {S} {q} {k} {d} h c f (suc t) z e b =
-      subst (Opened theory goals proof T B) (sym b)
-      (record {
-        S = S;
-        fit = refl;
-        course = off (record { over = refl; X = X; stands = h; is = e; few = omega arith });
-        counts = c;
-        facts = h.recorded.many ∙ ap length f;
-      })
+module _ {theory goals proof : List ℕ} {T : TheoryLists} {B : Board} {n : Sizes} {m : Mark} where
+  stops : {X : Texts} {S : State} → Stands X T B n m S → S.counts ≡ no_counts → S.facts ≡ [] → {s : Stopped} →
+      outcome_of (Err s) S ≡ check theory goals proof → Opened theory goals proof T B n m (Err s)
+  stops {X} {S} h c f e =
+      record { S = S; course = record { X = X; stands = h; is = e }; counts = c; facts = h.recorded.many ∙ ap length f }
 
   -- questions 2 and 3
-  pub texts_left : {cells : List ℕ} {T₀ : TheoryLists} → Opening T₀ B cells → {q t : ℕ} → LeftIn theory goals proof q t → T ≡ theory_tables no_theory →
-      {n : Sizes} → n ≡ no_sizes → {r : Run} → r ≡ stopped_run n no_mark q t 0 0 → Opened theory goals proof T B r
-  texts_left o {q} {t} l e s b = stops (nothing_stands e o.none s) refl refl t l.some l.is b
+  pub texts_left : {s : Stopped} → LeftIn theory goals proof s → T ≡ theory_tables no_theory → Cleared B n m → Opened theory goals proof T B n m (Err s)
+  texts_left l e z = stops (nothing_stands e z) refl refl l.is
 
   -- those put to the theory
-  module _ {cells : List ℕ} {T₀ : TheoryLists} (o : Opening T₀ B cells) (p : Plain theory goals proof) (a : Result ℕ Refused) (j : JudgedAs (verdict theory) a)
-      {c : Counts} (m : c ≡ counts_of (theory_in theory)) (t : T ≡ theory_tables (theory_in theory)) (h : LaidHeld theory (theory_in theory)) where
-    stands : {n : Sizes} → n ≡ theory_sizes c → Stands (texts theory goals goals) T B n no_mark (begin (theory_in theory))
-    stands s = theory_stands (verdict_formed theory) h p.short_goals t o.none s m
+  module _ {D : Sizes} (z : Cleared B D m) (p : Plain theory goals proof) (a : Result ℕ Refused) (j : JudgedAs (verdict theory) a)
+      {c : Counts} (k : c ≡ counts_of (theory_in theory)) (t : T ≡ theory_tables (theory_in theory)) (h : LaidHeld theory (theory_in theory))
+      (s : n ≡ theory_sizes c) where
+    stands : Stands (texts theory goals goals) T B n m (begin (theory_in theory))
+    stands = theory_stands (verdict_formed theory) h p.short_goals t z.none z.mark s k
 
-    pub theory_left : {e : Refused} → a ≡ Err e → {n : Sizes} → n ≡ theory_sizes c → {r : Run} →
-        r ≡ stopped_run n no_mark (number_of e.question) 1 e.form (detail_of e.question) → Opened theory goals proof T B r
+    pub theory_left : {e : Refused} → a ≡ Err e → Opened theory goals proof T B n m (Err (record { text = text.Theory; refused = e }))
     unfolding after_theory
-    theory_left f s b =
-        stops (stands s) refl refl 1 (λ z. omega arith) (ap (after_theory goals proof) (sym (judged_refused a (verdict theory) j f)) ∙ p.is) b
+    theory_left f = stops stands refl refl (ap (after_theory goals proof) (sym (judged_refused a (verdict theory) j f)) ∙ p.is)
 
-    pub goals_given : {n : Sizes} → n ≡ theory_sizes c → {w : List ℕ} → w ≡ cells → Posing theory goals T B n w
-    goals_given s e = record { stands = stands s; legible = legible p.short_goals (e ∙ o.cells_zero) }
+    pub goals_given : {w : List ℕ} → w ≡ replicate LENGTH 0 → Posing (texts theory goals goals) T B n m w
+    goals_given e = record { text = refl; stands = stands; legible = legible p.short_goals e }
 
     -- what the definition says of the goals decides
-    pub goals_next : {k : ℕ} → a ≡ Ok k → after_goals proof (whole take_goal (read goals) (begin (theory_in theory))) ≡ check theory goals proof
+    pub goals_next : {i : ℕ} → a ≡ Ok i → after_goals proof (whole take_goal (read goals) (begin (theory_in theory))) ≡ check theory goals proof
     unfolding after_theory
     goals_next f = ap (after_theory goals proof) (sym (judged_done a (verdict theory) j f)) ∙ p.is
 
   -- The goals ------------------------------------------------------------------------------------------------------------------------
 
-  starts : {n : Sizes} {m : Mark} {S : State} → Stands (texts theory goals goals) T B n m S → Fresh S → length proof ≤ LENGTH →
-      after_proof (through take_form (read proof) 0 S) ≡ check theory goals proof → {r : Run} → r ≡ started_run n m → Opened theory goals proof T B r
-  starts {n} {m} {S} h f l e b =
-      subst (Opened theory goals proof T B) (sym b)
-      (record {
+  starts : {S : State} → Stands (texts theory goals goals) T B n m S → Fresh S → length proof ≤ LENGTH →
+      after_proof (through take_form (read proof) 0 S) ≡ check theory goals proof → Opened theory goals proof T B n m (Ok tt)
+  starts {S} h f l e =
+      record {
         S = S;
-        fit = refl;
-        course = on (record {
-          going = refl;
+        course = record {
           stands = stands_proof proof h f.vars f.defs l;
           bounded = f.checked;
           left = ap (λ t. after_proof (through take_form t 0 S)) (sym (read_first proof)) ∙ e;
           high = omega arith;
           few = omega arith;
-        });
+        };
         counts = f.counts;
         facts = h.recorded.many ∙ ap length f.facts;
-      })
+      }
 
-  -- question 25 decides
-  pub goals_opened : (J : Judged State) {r : Run} → Posed theory goals T B J r → after_goals proof J ≡ check theory goals proof → length proof ≤ LENGTH →
-      Opened theory goals proof T B r
+  -- a question is left in the goals
+  pub goals_left : (J : Judged State) {e : Refused} → Posed (texts theory goals goals) T B n m J (Err e) → after_goals proof J ≡ check theory goals proof →
+      Opened theory goals proof T B n m (Err (record { text = text.Goals; refused = e }))
   unfolding after_goals
-  goals_opened (refused q d k S) p e l = stops p.stands p.fresh.counts p.fresh.facts 2 (λ z. omega arith) e p.is
-  goals_opened (done k S) {r} p e l = go (eqb (length S.goals) 0) refl
-    where
-      many : eqb p.n.goals 0 ≡ eqb (length S.goals) 0
-      many = ap (λ n. eqb n 0) (sym p.stands.goals.many)
+  goals_left (refused q d k S) p e =
+      stops p.stands p.fresh.counts p.fresh.facts ((λ i. refused_in 2 (p.is.0 i) (p.is.1 i) (p.is.2 i) S) ∙ e)
+  goals_left (done k S) p e =
+      stops p.stands p.fresh.counts p.fresh.facts
+      (ap (λ (r : Refused). outcome_of (Err (record { text = text.Goals; refused = r })) S) p.is.1
+      ∙ sym (ap (outcome_by proof k S) (eq-eqb (length S.goals) 0 (p.stands.goals.many ∙ p.is.0))) ∙ e)
 
-      go : (b : Bool) → eqb (length S.goals) 0 ≡ b → Opened theory goals proof T B r
-      go true h =
-          stops p.stands p.fresh.counts p.fresh.facts 2 (λ z. omega arith) (sym (ap (outcome_of proof k S) h) ∙ e)
-          (p.is ∙ ap (run_of p.n p.m k) (many ∙ h))
-      go false h = starts p.stands p.fresh l (sym (ap (outcome_of proof k S) h) ∙ e) (p.is ∙ ap (run_of p.n p.m k) (many ∙ h))
+  -- none is
+  pub goals_opened : (J : Judged State) → Posed (texts theory goals goals) T B n m J (Ok tt) → after_goals proof J ≡ check theory goals proof → length proof ≤ LENGTH →
+      Opened theory goals proof T B n m (Ok tt)
+  unfolding after_goals
+  goals_opened (refused q d k S) p e l = absurd p.is
+  goals_opened (done k S) p e l =
+      starts p.stands p.fresh l (sym (ap (outcome_by proof k S) (ne_eqb (length S.goals) 0 (λ z. p.is (sym p.stands.goals.many ∙ z)))) ∙ e)

@@ -1,12 +1,24 @@
 -- Questions 2 and 3 in the definition's words: one is left in some text, or the theory is judged. Assumes nothing.
-use Rattle.std.specs.Prelude.{◌≡◌, List, ℕ, ◌≤◌, length}
+use Rattle.std.specs.Prelude.{◌≡◌, List, ℕ, ◌≤◌, length, Option, Some as some, None as nothing, Result, Ok, Err}
 use Rattle.rules.specs.Limits.{LENGTH}
 use Rattle.rules.specs.Theory.{no_theory}
 use Rattle.rules.specs.State.{begin}
 use Rattle.rules.specs.Check.{refused_in, after_theory, check}
+use Rattle.questions.specs.declared.Question.{Question}
+use Rattle.questions.specs.Numbers.{number_of, detail_of}
 use Rattle.kernel.specs.Parsed.{verdict}
-use Rattle.beginning.specs.declared.texts.Asked.{Asked}
-use Rattle.beginning.specs.declared.texts.Asked.TheVariants as asked
+use Rattle.running.specs.declared.stopped.Text.{Text}
+use Rattle.running.specs.declared.stopped.Stopped.{Stopped}
+use Rattle.running.specs.Stopped.{text_number}
+
+-- the number of a text, 0 for none
+abbrev pub number_in : Option Text → ℕ
+number_in (some t) = text_number t
+number_in nothing = 0
+
+-- a question that is left before the first form of a text
+abbrev pub left_in : Text → Question → Stopped
+left_in t q = record { text = t; refused = record { question = q; form = 0 } }
 
 -- none is left: no text is too long, and what comes behind these questions decides
 pub record Plain (theory goals proof : List ℕ) : Type 0 where
@@ -15,11 +27,11 @@ pub record Plain (theory goals proof : List ℕ) : Type 0 where
   pub short_proof : length proof ≤ LENGTH
   pub is : after_theory goals proof (verdict theory) ≡ check theory goals proof
 
--- question q is left in text t
-pub record LeftIn (theory goals proof : List ℕ) (q t : ℕ) : Type 0 where
-  pub some : (t ≡ 0 → ⊥)
-  pub is : refused_in t q 0 0 (begin no_theory) ≡ check theory goals proof
+-- that question is left in that text
+pub record LeftIn (theory goals proof : List ℕ) (s : Stopped) : Type 0 where
+  pub is : refused_in (text_number s.text) (number_of s.refused.question) (detail_of s.refused.question) s.refused.form (begin no_theory)
+      ≡ check theory goals proof
 
-abbrev pub AskedAs : (theory goals proof : List ℕ) → Asked → Type 0
-AskedAs theory goals proof asked.Nothing = Plain theory goals proof
-AskedAs theory goals proof (asked.Left q t) = LeftIn theory goals proof q t
+abbrev pub AskedAs : (theory goals proof : List ℕ) → Result (Unit {0}) Stopped → Type 0
+AskedAs theory goals proof (Ok u) = Plain theory goals proof
+AskedAs theory goals proof (Err s) = LeftIn theory goals proof s

@@ -1,9 +1,10 @@
 -- Question 1 by numbers, tables of just their named lengths, and the tables of a check that has nothing but a theory. Assumes nothing.
-use Rattle.std.specs.Prelude.{◌≡◌, Bool, true, false, ℕ, ◌*◌, ◌≤◌, length, replicate}
+use Rattle.std.specs.Prelude.{◌≡◌, Bool, true, false, ℕ, ◌*◌, ◌≤◌, List, [], ◌∷◌, length, get_or}
 use Rattle.rules.specs.Limits.{SORTS, SYMBOLS, ARGUMENTS, RULES, RULEVARS, PATTERNS, VARIABLES, TERMS, WORDS, DEFS, GOALS, FACTS, ENTRIES}
 use Rattle.kernel.specs.declared.tables.Counts.{Counts}
+use Rattle.terms.specs.declared.store.Mark.{Mark}
 use Rattle.state.specs.declared.sizes.Sizes.{Sizes}
-use Rattle.running.specs.Lent.{Working, working}
+use Rattle.state.specs.Stands.{Board}
 
 -- Question 1 -----------------------------------------------------------------------------------------------------------------------
 
@@ -37,20 +38,35 @@ pub record Fits (a b c d e f g h i j k l m n : ℕ) : Type 0 where
   pub missing : GOALS ≤ m
   pub facts : FACTS ≤ n
 
+-- the least lengths, in that order
+abbrev pub named : List ℕ
+named =
+    (2 * SORTS) ∷ (4 * SYMBOLS) ∷ (ARGUMENTS * SYMBOLS) ∷ (6 * RULES) ∷ (3 * RULEVARS * RULES) ∷ PATTERNS ∷ (4 * VARIABLES) ∷ (4 * TERMS) ∷ WORDS
+    ∷ (3 * DEFS) ∷ (6 * GOALS) ∷ ENTRIES ∷ GOALS ∷ FACTS ∷ []
+
+-- all of them in one list
+abbrev pub FitsAll : List ℕ → Type 0
+FitsAll l =
+    Fits (get_or l 0 0) (get_or l 1 0) (get_or l 2 0) (get_or l 3 0) (get_or l 4 0) (get_or l 5 0) (get_or l 6 0) (get_or l 7 0) (get_or l 8 0)
+    (get_or l 9 0) (get_or l 10 0) (get_or l 11 0) (get_or l 12 0) (get_or l 13 0)
+
 -- Tables of their named lengths ------------------------------------------------------------------------------------------------------
 
-pub record ExactWorking (W : Working) : Type 0 where
-  pub vars : length W.vars ≡ 4 * VARIABLES
-  pub index : length W.index ≡ 4 * TERMS
-  pub words : length W.words ≡ WORDS
-  pub defs : length W.defs ≡ 3 * DEFS
-  pub goals : length W.goals ≡ 6 * GOALS
-  pub lists : length W.lists ≡ ENTRIES
-
-abbrev pub no_working : Working
-no_working =
-    working (replicate (4 * VARIABLES) 0) (replicate (4 * TERMS) 0) (replicate WORDS 0) (replicate (3 * DEFS) 0) (replicate (6 * GOALS) 0) (replicate ENTRIES 0)
+pub record ExactBoard (B : Board) : Type 0 where
+  pub vars : length B.vars ≡ 4 * VARIABLES
+  pub index : length B.index ≡ 4 * TERMS
+  pub words : length B.words ≡ WORDS
+  pub defs : length B.defs ≡ 3 * DEFS
+  pub goals : length B.goals ≡ 6 * GOALS
+  pub lists : length B.lists ≡ ENTRIES
 
 -- what is used where there is nothing but a theory
 abbrev pub theory_sizes : Counts → Sizes
 theory_sizes c = record { sorts = c.sorts; symbols = c.symbols; rules = c.rules; vars = 0; defs = 0; goals = 0; facts = 0; entries = 0 }
+
+-- nothing is used
+abbrev pub no_sizes : Sizes
+no_sizes = record { sorts = 0; symbols = 0; rules = 0; vars = 0; defs = 0; goals = 0; facts = 0; entries = 0 }
+
+abbrev pub no_mark : Mark
+no_mark = record { terms = 0; words = 0 }

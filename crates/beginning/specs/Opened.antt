@@ -1,13 +1,14 @@
--- The beginning over tables of their named lengths: what each part is given, and where the check stands then. Assumes nothing.
-use Rattle.std.specs.Prelude.{◌≡◌, true, List, ℕ, ◌*◌, length, replicate}
+-- The beginning over tables of their named lengths: what it is given, and where the check stands then. Assumes nothing.
+use Rattle.std.specs.Prelude.{◌≡◌, List, ℕ, ◌*◌, replicate, Result, Ok, Err}
 use Rattle.rules.specs.Limits.{LENGTH, VARIABLES, TERMS, WORDS, DEFS, GOALS, FACTS, ENTRIES}
 use Rattle.rules.specs.State.{State, no_counts}
 use Rattle.kernel.specs.Parsed.{TheoryLists, Exact}
+use Rattle.terms.specs.declared.store.Mark.{Mark}
+use Rattle.state.specs.declared.sizes.Sizes.{Sizes}
 use Rattle.state.specs.Stands.{Board, board}
-use Rattle.running.specs.declared.run.Run.{Run}
-use Rattle.running.specs.Course.{Course}
-use Rattle.running.specs.Lent.{Working}
-use Rattle.beginning.specs.Lengths.{ExactWorking}
+use Rattle.running.specs.declared.stopped.Stopped.{Stopped}
+use Rattle.running.specs.Course.{Underway, Over}
+use Rattle.beginning.specs.Lengths.{ExactBoard, no_sizes, no_mark}
 
 -- zero everywhere
 abbrev pub no_board : Board
@@ -15,25 +16,31 @@ no_board =
     board (replicate (4 * VARIABLES) 0) (replicate (4 * TERMS) 0) (replicate WORDS 0) (replicate (3 * DEFS) 0) (replicate (6 * GOALS) 0)
     (replicate (6 * FACTS) 0) (replicate (4 * FACTS) 0) (replicate ENTRIES 0)
 
--- the tables as they are lent; M: the list of 53
-pub record Lending (T : TheoryLists) (W : Working) (M facts footings cells : List ℕ) : Type 0 where
+-- the tables as they are lent: no fact is stored
+pub record Lending (B : Board) : Type 0 where
+  pub exact : ExactBoard B
+  pub facts_zero : B.facts ≡ replicate (6 * FACTS) 0
+  pub footings_zero : B.footings ≡ replicate (4 * FACTS) 0
+
+-- with those of the theory, and cells of zeros for the forms
+pub record Opening (T : TheoryLists) (B : Board) (cells : List ℕ) : Type 0 where
   pub theory : Exact T
-  pub working : ExactWorking W
-  pub missing : length M ≡ GOALS
-  pub facts_zero : facts ≡ replicate (6 * FACTS) 0
-  pub footings_zero : footings ≡ replicate (4 * FACTS) 0
+  pub lent : Lending B
   pub cells_zero : cells ≡ replicate LENGTH 0
 
 -- all but the theory's are cleared
-pub record Opening (T : TheoryLists) (B : Board) (cells : List ℕ) : Type 0 where
-  pub theory : Exact T
+pub record Cleared (B : Board) (n : Sizes) (m : Mark) : Type 0 where
   pub none : B ≡ no_board
-  pub cells_zero : cells ≡ replicate LENGTH 0
+  pub sizes : n ≡ no_sizes
+  pub mark : m ≡ no_mark
 
--- a question is left, or the proof begins
-pub record Opened (theory goals proof : List ℕ) (T : TheoryLists) (B : Board) (r : Run) : Type 0 where
+-- the proof begins, or a question is left
+abbrev pub CourseOf : (theory goals proof : List ℕ) → TheoryLists → Board → Sizes → Mark → State → Result (Unit {0}) Stopped → Type 0
+CourseOf theory goals proof T B n m S (Ok u) = Underway theory goals proof T B n m 0 0 S
+CourseOf theory goals proof T B n m S (Err s) = Over theory goals proof T B n m (Err s) S
+
+pub record Opened (theory goals proof : List ℕ) (T : TheoryLists) (B : Board) (n : Sizes) (m : Mark) (r : Result (Unit {0}) Stopped) : Type 0 where
   pub S : State
-  pub fit : r.fit ≡ true
-  pub course : Course theory goals proof T B r S
+  pub course : CourseOf theory goals proof T B n m S r
   pub counts : S.counts ≡ no_counts
-  pub facts : r.sizes.facts ≡ 0
+  pub facts : n.facts ≡ 0

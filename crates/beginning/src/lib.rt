@@ -4,5 +4,5 @@
 
 pub mod begin;
 mod goals;
-mod tables;
-mod texts;
+pub mod tables;
+pub mod texts;

@@ -1,152 +1,78 @@
 // Question 1, by the lengths of the tables; the tables cleared; what a theory uses of them.
-ghost use Rattle.std.specs.Prelude.{◌≡◌, length, replicate};
-ghost use Rattle.rules.specs.Limits.{GOALS};
+ghost use Rattle.std.specs.Prelude.{◌≡◌};
 ghost use Rattle.rules.specs.Theory.{no_theory};
-ghost use Rattle.kernel.specs.Parsed.{theory_lists, Exact, theory_tables};
-ghost use Rattle.running.specs.Lent.{working};
-ghost use Rattle.beginning.specs.Lengths.{TheoryFits, WorkingFits, Fits, Decides, ExactWorking, no_working, theory_sizes};
+ghost use Rattle.kernel.specs.Parsed.{Exact, theory_tables};
+ghost use Rattle.kernel.specs.Tables.{lists_of, SameTables as SameTheory};
+ghost use Rattle.terms.specs.Lent.{SameTables};
+ghost use Rattle.forms.specs.Boards.{tables_of, SameBoard};
+ghost use Rattle.beginning.specs.Lengths.{FitsAll, Decides, theory_sizes};
+ghost use Rattle.beginning.specs.Opened.{Lending, Cleared};
 
 use cells::clear;
-use kernel::tables::Counts;
+use kernel::tables::{Counts, Tables};
+use state::board::Board;
 use state::sizes::Sizes;
+use terms::store::{Mark, Store};
 
-// Whether the six tables of the theory are long enough, by their lengths.
-fn fits_theory(
-    sorts: usize,
-    symbols: usize,
-    inputs: usize,
-    rules: usize,
-    rulevars: usize,
-    patterns: usize,
-) -> bool
-    ensures { Decides result (TheoryFits sorts symbols inputs rules rulevars patterns) }
+// As long as this, or longer: the tables of the theory; those of variables, the store's two, those of abbreviations, goals, entries; the list of 53;
+// the records of facts.
+const NAMED: [usize; 14] = [
+    2 * rules::SORTS,
+    4 * rules::SYMBOLS,
+    rules::ARGUMENTS * rules::SYMBOLS,
+    6 * rules::RULES,
+    3 * rules::RULEVARS * rules::RULES,
+    rules::PATTERNS,
+    4 * rules::VARIABLES,
+    4 * rules::TERMS,
+    rules::WORDS,
+    3 * rules::DEFS,
+    6 * rules::GOALS,
+    rules::ENTRIES,
+    rules::GOALS,
+    rules::FACTS,
+];
+
+// Question 1, by the lengths in that order.
+pub fn fits(lengths: &[usize; 14]) -> bool
+    ensures { Decides result (FitsAll lengths.now) }
 {
-    if sorts < 2 * rules::SORTS {
-        return false;
-    }
-    if symbols < 4 * rules::SYMBOLS {
-        return false;
-    }
-    if inputs < rules::ARGUMENTS * rules::SYMBOLS {
-        return false;
-    }
-    if rules < 6 * rules::RULES {
-        return false;
-    }
-    if rulevars < 3 * rules::RULEVARS * rules::RULES {
-        return false;
-    }
-    if patterns < rules::PATTERNS {
-        return false;
+    for (k, least) in NAMED.iter().enumerate() {
+        if lengths[k] < *least {
+            return false;
+        }
     }
     true
-}
-
-// The same of the six tables that forms change.
-fn fits_working(
-    vars: usize,
-    index: usize,
-    words: usize,
-    defs: usize,
-    rows: usize,
-    lists: usize,
-) -> bool
-    ensures { Decides result (WorkingFits vars index words defs rows lists) }
-{
-    if vars < 4 * rules::VARIABLES {
-        return false;
-    }
-    if index < 4 * rules::TERMS {
-        return false;
-    }
-    if words < rules::WORDS {
-        return false;
-    }
-    if defs < 3 * rules::DEFS {
-        return false;
-    }
-    if rows < 6 * rules::GOALS {
-        return false;
-    }
-    if lists < rules::ENTRIES {
-        return false;
-    }
-    true
-}
-
-// Question 1. The last two: the list of 53, and the number of records of facts.
-pub fn fits(
-    sorts: usize,
-    symbols: usize,
-    inputs: usize,
-    rules: usize,
-    rulevars: usize,
-    patterns: usize,
-    vars: usize,
-    index: usize,
-    words: usize,
-    defs: usize,
-    rows: usize,
-    lists: usize,
-    missing: usize,
-    room: usize,
-) -> bool
-    ensures { Decides result (Fits sorts symbols inputs rules rulevars patterns vars index words defs rows lists missing room) }
-{
-    if missing < rules::GOALS {
-        return false;
-    }
-    if room < rules::FACTS {
-        return false;
-    }
-    if fits_theory(sorts, symbols, inputs, rules, rulevars, patterns) {
-        return fits_working(vars, index, words, defs, rows, lists);
-    }
-    false
 }
 
 // The tables of a theory that declares nothing.
-pub fn clear_theory(
-    sorts: &mut [u32],
-    symbols: &mut [u32],
-    inputs: &mut [u32],
-    rules: &mut [u32],
-    rulevars: &mut [u32],
-    patterns: &mut [u32],
-)
-    requires { Exact (theory_lists sorts.old symbols.old inputs.old rules.old rulevars.old patterns.old) }
-    ensures { theory_lists sorts.new symbols.new inputs.new rules.new rulevars.new patterns.new
-        ≡ theory_tables no_theory }
+pub fn clear_theory(tables: &mut Tables<'_>)
+    requires { Exact (lists_of tables.old) }
+    ensures same_tables { SameTheory tables.old tables.new }
+    ensures cleared { lists_of tables.new ≡ theory_tables no_theory }
 {
-    clear(sorts);
-    clear(symbols);
-    clear(inputs);
-    clear(rules);
-    clear(rulevars);
-    clear(patterns);
+    clear(tables.sorts);
+    clear(tables.symbols);
+    clear(tables.inputs);
+    clear(tables.rules);
+    clear(tables.vars);
+    clear(tables.patterns);
 }
 
-// The tables of a check that has nothing but a theory, and the list of 53.
-pub fn clear_working(
-    vars: &mut [u32],
-    index: &mut [u32],
-    words: &mut [u32],
-    defs: &mut [u32],
-    rows: &mut [u32],
-    lists: &mut [u32],
-    missing: &mut [u32],
-)
-    requires { ExactWorking (working vars.old index.old words.old defs.old rows.old lists.old) × (length missing.old ≡ GOALS) }
-    ensures lists_after { working vars.new index.new words.new defs.new rows.new lists.new ≡ no_working }
-    ensures missing_after { missing.new ≡ replicate GOALS 0 }
+// The tables of a check that has nothing but a theory; no fact is stored in them.
+pub fn clear_board(board: &mut Board<'_>, store: &mut Store<'_>)
+    requires { Lending (tables_of board.old store.old) }
+    ensures same_tables { SameBoard board.old board.new × SameTables store.old store.new }
+    ensures cleared { Cleared (tables_of board.new store.new) board.new.n store.new.mark }
 {
-    clear(vars);
-    clear(index);
-    clear(words);
-    clear(defs);
-    clear(rows);
-    clear(lists);
-    clear(missing);
+    clear(board.vars);
+    clear(store.index);
+    clear(store.words);
+    clear(board.defs);
+    clear(board.rows);
+    clear(board.lists);
+    store.mark = Mark { terms: 0, words: 0 };
+    board.n = theory_sizes(Counts::NONE);
 }
 
 // What is used where there is nothing but a theory.

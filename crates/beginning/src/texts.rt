@@ -1,61 +1,57 @@
-// Questions 2 and 3, put to the three texts in turn.
-ghost use Rattle.std.specs.Prelude.{◌≡◌};
-ghost use Rattle.rules.specs.Text.{short, plain};
+// The texts of a check, and questions 2 and 3, put to them in turn.
+ghost use Rattle.std.specs.Prelude.{◌≡◌, Bool, List, ℕ};
 ghost use Rattle.rules.specs.Check.{first_failing};
-ghost use Rattle.beginning.specs.Asking.{AskedAs};
+ghost use Rattle.beginning.specs.Asking.{number_in, left_in, AskedAs};
 
+use questions::{Question, Refused};
+use running::stopped::{Stopped, Text};
 use sexp::lex::{plain, short};
 
-// No question is left; or one by its number, with the text: 1 theory, 2 goals, 3 proof.
+// The three texts.
 #[derive(Clone, Copy)]
-pub enum Asked {
-    Nothing,
-    Left(usize, usize),
+pub struct Texts<'a> {
+    pub theory: &'a [u8],
+    pub goals: &'a [u8],
+    pub proof: &'a [u8],
 }
 
-// The first text that is too long; 0 for none.
-fn first_long(theory: &[u8], goals: &[u8], proof: &[u8]) -> usize
-    ensures { result ≡ first_failing short theory.now goals.now proof.now }
+// The first text that fails the test.
+fn first_failing<F: Fn(&[u8]) -> bool>(texts: &Texts<'_>, passes: F) -> Option<Text>
+    requires { F.IsAlwaysCallable passes }
+    ensures { (p : List ℕ → Bool) → ((x : _) (r : Bool) → F.post passes x r → r ≡ p x.now) →
+        number_in result ≡ first_failing p texts.now.theory.now texts.now.goals.now texts.now.proof.now }
 {
-    if !short(theory) {
-        return 1;
+    if !passes(texts.theory) {
+        return Some(Text::Theory);
     }
-    if !short(goals) {
-        return 2;
+    if !passes(texts.goals) {
+        return Some(Text::Goals);
     }
-    if !short(proof) {
-        return 3;
+    if !passes(texts.proof) {
+        return Some(Text::Proof);
     }
-    0
+    None
 }
 
-// The first text that has a byte above 127; 0 for none.
-fn first_odd(theory: &[u8], goals: &[u8], proof: &[u8]) -> usize
-    ensures { result ≡ first_failing plain theory.now goals.now proof.now }
+// The question, left in a text before its first form.
+fn left(text: Text, question: Question) -> Stopped
+    ensures { result ≡ left_in text question }
 {
-    if !plain(theory) {
-        return 1;
+    Stopped {
+        text,
+        refused: Refused { question, form: 0 },
     }
-    if !plain(goals) {
-        return 2;
-    }
-    if !plain(proof) {
-        return 3;
-    }
-    0
 }
 
 // All texts are asked question 2 before any is asked question 3.
-pub fn ask(theory: &[u8], goals: &[u8], proof: &[u8]) -> Asked
-    ensures { AskedAs theory.now goals.now proof.now result }
+pub fn ask(texts: &Texts<'_>) -> Result<(), Stopped>
+    ensures { AskedAs texts.now.theory.now texts.now.goals.now texts.now.proof.now result }
 {
-    let long = first_long(theory, goals, proof);
-    if long != 0 {
-        return Asked::Left(2, long);
+    if let Some(text) = first_failing(texts, short) {
+        return Err(left(text, Question::Length));
     }
-    let odd = first_odd(theory, goals, proof);
-    if odd != 0 {
-        return Asked::Left(3, odd);
+    if let Some(text) = first_failing(texts, plain) {
+        return Err(left(text, Question::Bytes));
     }
-    Asked::Nothing
+    Ok(())
 }

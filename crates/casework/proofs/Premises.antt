@@ -27,7 +27,7 @@ use Rattle.terms.specs.Table.{made, tree, Good, Grown, After}
 use Rattle.terms.specs.Sets.{holds, plus}
 use Rattle.terms.specs.Subst.{replacement, substituted, Replaceable}
 use Rattle.terms.specs.Theta.{bindings, Theta}
-use Rattle.terms.specs.Patterns.{bound_of, Stands, Standing, Buildable, BuiltAs, BuiltAt}
+use Rattle.terms.specs.Patterns.{bound_of, Stands, Standing, Buildable, Builds, BuiltAt}
 use Rattle.terms.specs.On.{Went, Stopped, On, on_start, on_is, on_ok, on_no, on_done}
 use Rattle.terms.specs.Laws.Growth.{made_length, grown_refl, grown_trans}
 use Rattle.terms.specs.Laws.Bound.{bound_grown, cells_grown, build_is}
@@ -188,106 +188,96 @@ module _ {symbols rules patterns : List ℕ} {n : Sizes} {I W : List ℕ} {old :
       build_is h.on.grown.good (cells_grown h.on.grown g.within) (renaming g.xs) h.p
       (λ v e. ap (λ (b : ℕ → Option Tree). b v) (bound_grown h.on.grown g.within) ∙ g.binds v (h.own v e))
 
-  -- b: what `build` answers
-  module _ {Y Z : List ℕ} {mid : Mark} {b : Result Built Question} (a : BuiltAt symbols patterns J X Y Z now mid cells place b) where
-    abbrev Says : Result Built Question → Type 0
-    Says z = BuiltAs J X Y Z now mid (build h.p (bound_of (made J X now) cells) (made J X now)) (place + size h.p) z
+  pub premising_unbuilt : {Y Z : List ℕ} {mid : Mark} {q : Question} → BuiltAt symbols patterns J X Y Z now mid cells place (Err q) →
+      Stopped I W Y Z old (rule_premises (renaming g.xs) (along (bindings (made I W old) theta 0)) (rule g.T r).premises (made I W old)) (number_of q) (detail_of q) mid
+  premising_unbuilt a = let s = (a h.p h.here).says in on_no _ h.on (record { grown = s.grown; makes = sym built_is ∙ s.makes })
 
-    says : Says b
-    says = (a h.p h.here).says
+  module _ {Y Z : List ℕ} {mid : Mark} {b : Built} (a : BuiltAt symbols patterns J X Y Z now mid cells place (Ok b)) where
+    abbrev t : ℕ
+    t = b.term
 
-    pub premising_unbuilt : {q : Question} → b ≡ Err q →
-        Stopped I W Y Z old (rule_premises (renaming g.xs) (along (bindings (made I W old) theta 0)) (rule g.T r).premises (made I W old)) (number_of q) (detail_of q) mid
-    premising_unbuilt {q} e =
-        let s : Says (Err q) = subst Says e says in
-        on_no _ h.on (record { grown = s.grown; makes = sym built_is ∙ s.makes })
+    done : Builds J X Y Z now (build h.p (bound_of (made J X now) cells) (made J X now)) (place + size h.p) b.term b.end mid
+    done = (a h.p h.here).says
 
-    module _ {p : Built} (e : b ≡ Ok p) where
-      abbrev t : ℕ
-      t = p.term
+    pub premising_there : t < mid.terms
+    premising_there = done.there
 
-      done : Says (Ok p)
-      done = subst Says e says
+    pub premising_good : Good Y Z mid
+    premising_good = done.grown.good
 
-      pub premising_there : t < mid.terms
-      premising_there = done.there
+    whole_grown : Grown I W Y Z old mid
+    whole_grown = grown_trans h.on.grown done.grown
 
-      pub premising_good : Good Y Z mid
-      premising_good = done.grown.good
+    -- what `substitute` asks
+    pub premising_replaces : Replaceable Y Z mid theta t
+    premising_replaces = replaceable_now (grown_refl premising_good) theta (theta_grown whole_grown c).bound premising_there
 
-      whole_grown : Grown I W Y Z old mid
-      whole_grown = grown_trans h.on.grown done.grown
+    on_built : On I W old (rule_premises (renaming g.xs) (along (bindings (made I W old) theta 0)) (rule g.T r).premises (made I W old)) Y Z mid
+        (then (then (substitute (along (bindings (made I W old) theta 0)) (tree Y Z mid t) (made Y Z mid))
+        (λ u R. then (wanted I W old g.xs theta h.rest R) (λ us Y. ok (bare u ∷ us) Y))) (later h.before))
+    on_built = on_ok _ h.on (record { grown = done.grown; makes = sym built_is ∙ done.makes })
 
-      -- what `substitute` asks
-      pub premising_replaces : Replaceable Y Z mid theta t
-      premising_replaces = replaceable_now (grown_refl premising_good) theta (theta_grown whole_grown c).bound premising_there
+    on_second : On I W old (rule_premises (renaming g.xs) (along (bindings (made I W old) theta 0)) (rule g.T r).premises (made I W old)) Y Z mid
+        (then (substitute (replacement (made Y Z mid) theta) (tree Y Z mid t) (made Y Z mid))
+        (λ u R. then (then (wanted I W old g.xs theta h.rest R) (λ us Y. ok (bare u ∷ us) Y)) (later h.before)))
+    on_second =
+        on_is on_built
+        (then_then (substitute (along (bindings (made I W old) theta 0)) (tree Y Z mid t) (made Y Z mid)) _ _
+        ∙ ap (λ (σ : ℕ → Tree). then (substitute σ (tree Y Z mid t) (made Y Z mid))
+        (λ u R. then (then (wanted I W old g.xs theta h.rest R) (λ us Y. ok (bare u ∷ us) Y)) (later h.before)))
+        (along_is (made I W old) theta ∙ sym (replacement_grown whole_grown theta c.bound)))
 
-      on_built : On I W old (rule_premises (renaming g.xs) (along (bindings (made I W old) theta 0)) (rule g.T r).premises (made I W old)) Y Z mid
-          (then (then (substitute (along (bindings (made I W old) theta 0)) (tree Y Z mid t) (made Y Z mid))
-          (λ u R. then (wanted I W old g.xs theta h.rest R) (λ us Y. ok (bare u ∷ us) Y))) (later h.before))
-      on_built = on_ok _ h.on (record { grown = done.grown; makes = sym built_is ∙ done.makes })
+    -- k: what `substitute` answers
+    module _ {Y' Z' : List ℕ} {new : Mark} {k : Result ℕ Row}
+        (s : After Y Z Y' Z' mid new (substituted Y Z mid theta t) (substitute (replacement (made Y Z mid) theta) (tree Y Z mid t) (made Y Z mid)) k) where
+      pub premising_full : {row : Row} → k ≡ Err row →
+          Stopped I W Y' Z' old (rule_premises (renaming g.xs) (along (bindings (made I W old) theta 0)) (rule g.T r).premises (made I W old)) 60 (row_number row) new
+      premising_full f = on_no _ on_second (under_stopped (grown_refl premising_good) theta (theta_grown whole_grown c).bound premising_there s f)
 
-      on_second : On I W old (rule_premises (renaming g.xs) (along (bindings (made I W old) theta 0)) (rule g.T r).premises (made I W old)) Y Z mid
-          (then (substitute (replacement (made Y Z mid) theta) (tree Y Z mid t) (made Y Z mid))
-          (λ u R. then (then (wanted I W old g.xs theta h.rest R) (λ us Y. ok (bare u ∷ us) Y)) (later h.before)))
-      on_second =
-          on_is on_built
-          (then_then (substitute (along (bindings (made I W old) theta 0)) (tree Y Z mid t) (made Y Z mid)) _ _
-          ∙ ap (λ (σ : ℕ → Tree). then (substitute σ (tree Y Z mid t) (made Y Z mid))
-          (λ u R. then (then (wanted I W old g.xs theta h.rest R) (λ us Y. ok (bare u ∷ us) Y)) (later h.before)))
-          (along_is (made I W old) theta ∙ sym (replacement_grown whole_grown theta c.bound)))
+      module _ {u : ℕ} (f : k ≡ Ok u) where
+        pub premising_small : u < new.terms
+        premising_small = under_there (grown_refl premising_good) theta (theta_grown whole_grown c).bound premising_there s f
 
-      -- k: what `substitute` answers
-      module _ {Y' Z' : List ℕ} {new : Mark} {k : Result ℕ Row}
-          (s : After Y Z Y' Z' mid new (substituted Y Z mid theta t) (substitute (replacement (made Y Z mid) theta) (tree Y Z mid t) (made Y Z mid)) k) where
-        pub premising_full : {row : Row} → k ≡ Err row →
-            Stopped I W Y' Z' old (rule_premises (renaming g.xs) (along (bindings (made I W old) theta 0)) (rule g.T r).premises (made I W old)) 60 (row_number row) new
-        premising_full f = on_no _ on_second (under_stopped (grown_refl premising_good) theta (theta_grown whole_grown c).bound premising_there s f)
+        went : Went Y Z Y' Z' mid (substitute (replacement (made Y Z mid) theta) (tree Y Z mid t) (made Y Z mid)) (tree Y' Z' new u) new
+        went = under_went (grown_refl premising_good) theta (theta_grown whole_grown c).bound premising_there s f
 
-        module _ {u : ℕ} (f : k ≡ Ok u) where
-          pub premising_small : u < new.terms
-          premising_small = under_there (grown_refl premising_good) theta (theta_grown whole_grown c).bound premising_there s f
+        pub premising_room : Good Y' Z' new
+        premising_room = went.grown.good
 
-          went : Went Y Z Y' Z' mid (substitute (replacement (made Y Z mid) theta) (tree Y Z mid t) (made Y Z mid)) (tree Y' Z' new u) new
-          went = under_went (grown_refl premising_good) theta (theta_grown whole_grown c).bound premising_there s f
+        adds_one : {set'' : List ℕ} → holds set'' ≡ plus u (holds set') → PlainAdds (made Y' Z' new) set' set'' (tree Y' Z' new u ∷ [])
+        unfolding trees_of has
+        adds_one d =
+            record {
+              ps = u ∷ [];
+              there = both {x = u} (omega (arith, premising_small, made_length Y' Z' new)) empty;
+              trees = refl;
+              is = d ∙ (λ i v. holds set' v || sym (plus_has u []) i v);
+            }
 
-          pub premising_room : Good Y' Z' new
-          premising_room = went.grown.good
+        plains_one : plains_of (bare (tree Y' Z' new u) ∷ []) ≡ tree Y' Z' new u ∷ []
+        unfolding plains_of plainly is_none is_empty
+        plains_one = refl
 
-          adds_one : {set'' : List ℕ} → holds set'' ≡ plus u (holds set') → PlainAdds (made Y' Z' new) set' set'' (tree Y' Z' new u ∷ [])
-          unfolding trees_of has
-          adds_one d =
-              record {
-                ps = u ∷ [];
-                there = both {x = u} (omega (arith, premising_small, made_length Y' Z' new)) empty;
-                trees = refl;
-                is = d ∙ (λ i v. holds set' v || sym (plus_has u []) i v);
-              }
+        others_one : others_of (bare (tree Y' Z' new u) ∷ []) ≡ []
+        unfolding others_of plainly is_none is_empty
+        others_one = refl
 
-          plains_one : plains_of (bare (tree Y' Z' new u) ∷ []) ≡ tree Y' Z' new u ∷ []
-          unfolding plains_of plainly is_none is_empty
-          plains_one = refl
-
-          others_one : others_of (bare (tree Y' Z' new u) ∷ []) ≡ []
-          unfolding others_of plainly is_none is_empty
-          others_one = refl
-
-          pub premising_more : {set'' : List ℕ} {fewer : ℕ} → holds set'' ≡ plus u (holds set') → left ≡ fewer + 1 →
-              Premising symbols patterns I W old g.xs theta (rule g.T r).premises set Y' Z' set'' new p.end fewer
-          unfolding then
-          premising_more {set''} {fewer} d q =
-              let a = bare (tree Y' Z' new u) in
-              record {
-                rest = h.rest;
-                stands = subst (λ (j : ℕ). Standing symbols patterns j h.rest) (sym done.after) h.stands;
-                count = omega (arith, h.count, q);
-                few = h.few;
-                before = h.before ++ (a ∷ []);
-                on = on_is (on_ok _ on_second went)
-                    (then_then (wanted I W old g.xs theta h.rest (made Y' Z' new)) _ _
-                    ∙ ap (then (wanted I W old g.xs theta h.rest (made Y' Z' new))) (λ i us R. ok (sym (append_assoc h.before (a ∷ []) us) i) R));
-                adds = subst (λ (ts : List Tree). PlainAdds (made Y' Z' new) set set'' ts)
-                    (sym (plains_append h.before (a ∷ []) ∙ ap (λ (ts : List Tree). plains_of h.before ++ ts) plains_one))
-                    (plain_more (grown_trans done.grown went.grown) h.adds (adds_one d));
-                only = others_append h.before (a ∷ []) ∙ (λ i. h.only i ++ others_one i);
-              }
+        pub premising_more : {set'' : List ℕ} {fewer : ℕ} → holds set'' ≡ plus u (holds set') → left ≡ fewer + 1 →
+            Premising symbols patterns I W old g.xs theta (rule g.T r).premises set Y' Z' set'' new b.end fewer
+        unfolding then
+        premising_more {set''} {fewer} d q =
+            let a = bare (tree Y' Z' new u) in
+            record {
+              rest = h.rest;
+              stands = subst (λ (j : ℕ). Standing symbols patterns j h.rest) (sym done.after) h.stands;
+              count = omega (arith, h.count, q);
+              few = h.few;
+              before = h.before ++ (a ∷ []);
+              on = on_is (on_ok _ on_second went)
+                  (then_then (wanted I W old g.xs theta h.rest (made Y' Z' new)) _ _
+                  ∙ ap (then (wanted I W old g.xs theta h.rest (made Y' Z' new))) (λ i us R. ok (sym (append_assoc h.before (a ∷ []) us) i) R));
+              adds = subst (λ (ts : List Tree). PlainAdds (made Y' Z' new) set set'' ts)
+                  (sym (plains_append h.before (a ∷ []) ∙ ap (λ (ts : List Tree). plains_of h.before ++ ts) plains_one))
+                  (plain_more (grown_trans done.grown went.grown) h.adds (adds_one d));
+              only = others_append h.before (a ∷ []) ∙ (λ i. h.only i ++ others_one i);
+            }

@@ -11,8 +11,7 @@ use lib.ListN.{length, get_or, set, length-set, get_or-eq_default}
 use lib.Seq.{get_or-set_same, get_or-set_other}
 use Rattle.rules.specs.Text.{same}
 use Rattle.rules.specs.Laws.Text.{same_self, same_equal}
-use Rattle.std.specs.Prelude.{Option, Some as some, None as nothing}
-use Rattle.casework.specs.Distinct.{turn_of, between, name_of, Way, done, on, Comes, Tree, IsMet, IsFree, SpotAs, Entered}
+use Rattle.casework.specs.Distinct.{turn_of, between, name_of, Way, done, on, Comes, Tree, IsMet, IsFree, Entered}
 
 -- Turns ------------------------------------------------------------------------------------------------------------------------------------------
 
@@ -132,15 +131,6 @@ module _ {text places links : List ℕ} {many : ℕ} (t : Tree text places links
                 deep = omega (arith, r, u, s.deep);
                 ahead = λ n l h m. comes_on (s.ahead n l h m) (other n m);
               }))
-
--- What `seek` answers ------------------------------------------------------------------------------------------------------------------------------
-
-module _ (text places links : List ℕ) (many : ℕ) (name : List ℕ) (r : Option ℕ) (h : SpotAs text places links many name r) where
-  pub spot_met : r ≡ nothing → IsMet text places many name
-  spot_met e = subst (λ (z : Option ℕ). SpotAs text places links many name z) e h
-
-  pub spot_free : {cell : ℕ} → r ≡ some cell → IsFree text places links many name cell
-  spot_free e = subst (λ (z : Option ℕ). SpotAs text places links many name z) e h
 
 -- A name that comes in ---------------------------------------------------------------------------------------------------------------------------
 

@@ -14,8 +14,8 @@ ghost use Rattle.terms.specs.Subst.{replacement};
 ghost use Rattle.terms.specs.Theta.{bindings, Theta};
 ghost use Rattle.state.specs.declared.sizes.Sizes.{Sizes};
 ghost use Rattle.state.specs.Entries.{part};
-ghost use Rattle.state.specs.Rows.{premises_span, general_span};
-ghost use Rattle.referring.specs.Recall.{fact_of, RecallsFact};
+ghost use Rattle.state.specs.Rows.{premises_span};
+ghost use Rattle.referring.specs.Recall.{fact_of};
 ghost use Rattle.referring.specs.Sources.{RecallsIn};
 ghost use Rattle.casework.specs.Context.{There, Comparing, allowed_as, plainly, Adds, ContextAs, UnderAs, one, all_of, under, ContextIn, MarkedAs, OneMarked, UnboundAs, RestsIn, rests_by, RenamedIn, PremisesAs};
 
@@ -26,7 +26,7 @@ use referring::scope::visit_cells;
 use referring::source::Facts;
 use referring::substitutes::substitute_all;
 use rules::{FACTWORDS, TERMWORDS, VARIABLES, VARIABLEWORDS};
-use state::facts::{Span, general, is_assumed, is_plain, judgment, premises};
+use state::facts::{is_assumed, is_plain, judgment};
 use terms::patterns::build;
 use terms::sets::{has, insert};
 use terms::store::{Store, Terms};
@@ -68,24 +68,6 @@ pub fn no_grounds(own: &[u32]) -> Grounds<'_>
     }
 }
 
-// The premises of fact h.
-fn premises_of<'a>(facts: &Facts<'a>, h: usize) -> &'a [u32]
-    requires { (footings : List ℕ) × RecallsFact facts.now.rows.now footings facts.now.lists.now h }
-    ensures { result.now ≡ part facts.now.lists.now (premises_span facts.now.rows.now h) }
-{
-    let Span { from, end } = premises(facts.rows, h);
-    &facts.lists[from..end]
-}
-
-// Its generalised variables.
-fn general_of<'a>(facts: &Facts<'a>, h: usize) -> &'a [u32]
-    requires { (footings : List ℕ) × RecallsFact facts.now.rows.now footings facts.now.lists.now h }
-    ensures { result.now ≡ part facts.now.lists.now (general_span facts.now.rows.now h) }
-{
-    let Span { from, end } = general(facts.rows, h);
-    &facts.lists[from..end]
-}
-
 // Whether fact h has that judgment, those premises and generalised variables.
 fn is_row(facts: &Facts<'_>, h: usize, allowing: &Allowing<'_>) -> bool
     requires { Comparing facts.now allowing.now × (h < facts.now.n.facts) }
@@ -94,7 +76,7 @@ fn is_row(facts: &Facts<'_>, h: usize, allowing: &Allowing<'_>) -> bool
     if judgment(facts.rows, h) != allowing.judgment {
         return false;
     }
-    allowing.premises == premises_of(facts, h) && allowing.general == general_of(facts, h)
+    allowing.premises == facts.premises(h) && allowing.general == facts.general(h)
 }
 
 // Fact h joins the set where it has that judgment, those premises and generalised variables.
@@ -159,12 +141,12 @@ fn fact_under<'a>(
         UnderAs Allowed store.old store.new g.S (under (replacement (made_of store.old) map.now) (fact_of g.S h) (made_of store.old)) one grounds.entry result }
     ensures memo_unchanged { memo.new ≡ memo.old }
 {
-    substitute_all(store, map, memo, premises_of(facts, h), ids)?;
+    substitute_all(store, map, memo, facts.premises(h), ids)?;
     let judgment = substitute(store, map, memo, judgment(facts.rows, h))?;
     let allowing = Allowing {
         judgment,
         premises: ids,
-        general: general_of(facts, h),
+        general: facts.general(h),
     };
     Ok(allow(facts, &allowing, grounds))
 }
@@ -185,7 +167,7 @@ fn context_under<'a>(
         UnderAs Allowed store.old store.new g.S (under (replacement (made_of store.old) map.now) (fact_of g.S h) (made_of store.old)) one grounds.entry result }
     ensures memo_unchanged { (memo.new ≡ memo.old) × (ids.new ≡ ids.old) }
 {
-    let many = premises_of(facts, h).len();
+    let many = facts.premises(h).len();
     let answer = fact_under(facts, store, map, memo, h, &mut ids[..many], grounds);
     clear(&mut ids[..many]);
     answer
@@ -233,7 +215,7 @@ fn context_fact<'a>(
         ContextAs Allowed store.old store.new g.S (context_fact (bindings (made_of store.old) theta.now 0) (fact_of g.S h) (made_of store.old)) one grounds.entry result }
     ensures memo_unchanged { (memo.new ≡ memo.old) × (ids.new ≡ ids.old) }
 {
-    let variables = general_of(facts, h);
+    let variables = facts.general(h);
     if variables.is_empty() {
         return Ok(context_under(facts, store, theta, memo, h, ids, grounds)?);
     }

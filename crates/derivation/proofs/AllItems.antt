@@ -1,6 +1,6 @@
 -- The loop over the items of a step: what is left of them, from the cells, the stated conclusion and the store as they are now, gives what all of
 -- them give from the start. Assumes nothing.
-use mathlib.Core.Path.{◌≡◌, sym, ap, ◌∙◌, subst}
+use mathlib.Core.Path.{◌≡◌, sym, ap, subst}
 use mathlib.Core.List.{List}
 use Prim.Native.Nat.{ℕ, ◌-◌, ◌<◌, ◌≤◌}
 use lib.ListN.{length, take, drop, replicate}
@@ -21,7 +21,7 @@ use Rattle.reading.specs.Given.{Reads}
 use Rattle.referring.specs.Derived.{RuleItems, ItemsRead}
 use Rattle.derivation.specs.ItemsOf.{ItemsHeld, RuleItem}
 use Rattle.derivation.specs.Laws.ItemsOf.{held_none, items_read, read_held, reads_read_item}
-use Rattle.reading.specs.Laws.Walks.{walk_next, walk_on}
+use Rattle.reading.specs.Laws.Walks.{walk_next}
 
 -- zs are left in the cells from a place on
 pub record ItemsLeft (K : Names) (n : Sizes) (I W : List ℕ) (old : Mark) (r : ℕ) (cells : List ℕ) (S : State) (xs : Sexps) (J X : List ℕ) (now : Mark)
@@ -41,7 +41,14 @@ Itemed K P n I W old r cells J X now bound stated at =
 pub itemed_start : {K : Names} {P : RuleLists} {n : Sizes} {I W : List ℕ} {m : Mark} {r : ℕ} {cells bound : List ℕ} → bound ≡ replicate RULEVARS 0 →
     {at : ℕ} → at ≡ 0 → Itemed K P n I W m r cells I W m bound 0 at
 itemed_start {K = K} {cells = cells} e z g =
-    record { zs = g.xs; it = no_items; walk = subst (λ (k : ℕ). Walk K.text cells k g.xs) (sym z) (walk_start g.holds); reads = g.reads; on = on_start g.reads.good; held = held_none e }
+    record {
+      zs = g.xs;
+      it = no_items;
+      walk = subst (λ (k : ℕ). Walk K.text cells k g.xs) (sym z) (walk_start g.holds);
+      reads = g.reads;
+      on = on_start g.reads.good;
+      held = held_none e;
+    }
 
 module _ {K : Names} {n : Sizes} {I W : List ℕ} {old : Mark} {r : ℕ} {cells : List ℕ} {S : State} {xs : Sexps} {J X : List ℕ} {now : Mark} {bound : List ℕ}
     {stated at : ℕ} (l : ItemsLeft K n I W old r cells S xs J X now bound stated at) where
@@ -83,7 +90,8 @@ module _ {K : Names} {n : Sizes} {I W : List ℕ} {old : Mark} {r : ℕ} {cells 
       -- what reading the item answers
       module _ {Y Z : List ℕ} {new : Mark} where
         pub left_refused : {q d : ℕ} → ((h : RuleItem K rules rulevars n J X now r (take (length cells - at) (drop at cells)) bound stated) →
-            Stopped J X Y Z now (read_item h.S (rule h.S.theory r) h.x h.it (made J X now)) q d new) → Stopped I W Y Z old (read_items S (rule S.theory r) xs no_items (made I W old)) q d new
+            Stopped J X Y Z now (read_item h.S (rule h.S.theory r) h.x h.it (made J X now)) q d new) →
+            Stopped I W Y Z old (read_items S (rule S.theory r) xs no_items (made I W old)) q d new
         unfolding read_items
         left_refused p = on_no _ on_one (p left_given)
 

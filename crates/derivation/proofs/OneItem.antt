@@ -34,8 +34,8 @@ use Rattle.sexp.specs.FoundLaws.{found_at, found_missing, found_entry}
 use Rattle.sexp.specs.declared.items.Item.{Item}
 use Rattle.sexp.specs.declared.items.Item.TheVariants.{Atom, List as Part}
 use Rattle.kernel.specs.HeldRules.{RulesHeld}
-use Rattle.kernel.specs.Readers.{KnownRule, KnownVar, NamedVars}
-use Rattle.kernel.specs.Entries.{known_rule, known_var, named_vars}
+use Rattle.kernel.specs.Readers.{KnownVar, NamedVars}
+use Rattle.kernel.specs.Entries.{known_var, named_vars}
 use Rattle.terms.specs.declared.store.Mark.{Mark}
 use Rattle.terms.specs.Table.{made}
 use Rattle.terms.specs.Sets.{counted_from_1}
@@ -83,9 +83,6 @@ bind_is S R bs x it M = refl
 
 module _ {K : Names} {rules rulevars : List ℕ} {n : Sizes} {I W : List ℕ} {m : Mark} {r : ℕ} {cells bound : List ℕ} {stated : ℕ}
     (g : RuleItem K rules rulevars n I W m r cells bound stated) where
-  pub bind_rule : KnownRule rules r
-  bind_rule = known_rule g.ruled.held g.known
-
   few : length (rule g.S.theory r).vars ≤ RULEVARS
   unfolding rule
   few = all_at g.S.theory.rules r no_rule g.ruled.held.vars_few (omega (arith, g.known, g.ruled.held.many))
@@ -179,6 +176,13 @@ some_stated (some k) e t z = omega (arith, z)
 pub none_stated : (o : Option ℕ) {b : Bool} → b ≡ is_some o → b ≡ false → counted_from_1 o ≡ 0
 none_stated nothing e t = refl
 none_stated (some k) e t = absurd (true≢false (sym e ∙ t))
+
+-- whether cells are left
+pub none_there : {n : ℕ} {b : Bool} → b ≡ eqb n 0 → b ≡ true → n ≡ 0
+none_there {n} e t = eqb-true n 0 (sym e ∙ t)
+
+pub some_there : {n : ℕ} {b : Bool} → b ≡ eqb n 0 → b ≡ false → n ≡ 0 → ⊥
+some_there {n} e t z = true≢false (sym (e ∙ eq-eqb n 0 z) ∙ t)
 
 -- The conclusion ---------------------------------------------------------------------------------------------------------------------
 

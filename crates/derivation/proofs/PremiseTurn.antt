@@ -44,6 +44,10 @@ use Rattle.reading.specs.Laws.Walks.{walk_next}
 use Rattle.derivation.proofs.RulePremises.{premises_numbered, drop_trees, premise_below, premise_next}
 use Rattle.derivation.proofs.Discharging.{and_others, discharge_more, met_keeps, under_union, union_more, rests_all, premises_of, Left, count_more}
 
+-- the number of premise k, where it is counted so
+pub premise_at : (ns : List ℕ) {p j k : ℕ} → p ≡ get_or ns j 0 → j ≡ k → p ≡ get_or ns k 0
+premise_at ns e f = e ∙ ap (λ (v : ℕ). get_or ns v 0) f
+
 module _ {K : Names} {facts footings lists : List ℕ} {n : Sizes} {I W : List ℕ} {old : Mark} {i : ℕ} {cells bound : List ℕ} {S : State} {xs : Sexps} {J X : List ℕ} {now : Mark}
     {hyps footing used seen : List ℕ} {k at : ℕ} (l : Left K facts footings lists n I W old i cells bound S xs J X now hyps footing used seen k at) where
   -- what all of the premises give

@@ -16,14 +16,13 @@ use Rattle.rules.specs.State.{Fact}
 use Rattle.rules.specs.Step.{step}
 use Rattle.rules.specs.Laws.Find.{first_some}
 use Rattle.sexp.specs.Encode.{encodes}
-use Rattle.sexp.specs.Items.{Reaches, item_of, place}
-use Rattle.sexp.specs.NthItem.{reaches, nth_text, nth_part}
+use Rattle.sexp.specs.Items.{item_of, place}
+use Rattle.sexp.specs.NthItem.{nth_text, nth_part}
 use Rattle.sexp.specs.AtomText.{AtomText, name_from, atom_part, atom_high}
 use Rattle.sexp.specs.FoundLaws.{found_at, found_missing}
 use Rattle.sexp.specs.declared.items.Item.{Item}
 use Rattle.sexp.specs.declared.items.Item.TheVariants.{Atom, List as Part}
 use Rattle.kernel.specs.HeldRules.{RulesHeld}
-use Rattle.kernel.specs.Readers.{NamedRules}
 use Rattle.terms.specs.declared.store.Mark.{Mark}
 use Rattle.terms.specs.Table.{made}
 use Rattle.terms.specs.On.{On, Stopped, on_start, on_is, on_pure, on_stop, on_went, on_stopped, on_found_some, on_found_none}
@@ -54,12 +53,6 @@ module _ {K : Names} {rules rulevars patterns facts footings lists : List ℕ} {
 
   on_first : On I W m whole I W m (then (name 33 (item g.xs 2) (made I W m)) second)
   on_first = on_is (on_start g.refers.reads.good) (step_is g.S g.xs (made I W m))
-
-  pub step_reaches : (k : ℕ) → k < 4 → Reaches cells k
-  step_reaches k l = reaches g.holds (omega (arith, l, g.many))
-
-  pub step_named : NamedRules K.theory rules n.rules
-  step_named = (rulevars, patterns, g.ruled.words, (g.S.theory.rules, g.ruled.held))
 
   module _ {thing : Item} (a : (ys : Sexps) → cells ≡ encodes ys → thing ≡ item_of (place ys 2) (item ys 2)) where
     pub step_list : {start end : ℕ} → thing ≡ Part start end → Stopped I W I W m whole 33 0 m

@@ -1,5 +1,5 @@
 -- The items of a step and its conclusion: what the parts are given, which variables are used, and the definition's answer. Assumes nothing.
-use mathlib.Core.Path.{◌≡◌, sym, ap, ◌∙◌, subst}
+use mathlib.Core.Path.{◌≡◌, sym, ap, ◌∙◌}
 use mathlib.Core.List.{List}
 use Prim.Native.Nat.{ℕ, ◌<◌}
 use lib.ListN.{length, get_or, replicate, length-replicate}
@@ -10,7 +10,7 @@ use Rattle.rules.specs.Tree.{Tree, Trees, variables_of}
 use Rattle.rules.specs.Store.{Made}
 use Rattle.rules.specs.Theory.{Theory, rule}
 use Rattle.rules.specs.Step.{Items, no_items, read_items}
-use Rattle.kernel.specs.Readers.{KnownRule, KnownFormedRule, FormedRules, WordsAt, conclusion_at}
+use Rattle.kernel.specs.Readers.{FormedRules, WordsAt, conclusion_at}
 use Rattle.kernel.specs.declared.rule_readers.Span.{Span}
 use Rattle.terms.specs.declared.store.Mark.{Mark}
 use Rattle.terms.specs.Table.{made, tree, args_of}
@@ -25,9 +25,8 @@ use Rattle.state.specs.declared.sizes.Sizes.{Sizes}
 use Rattle.state.specs.Held.{Names, rule_lists}
 use Rattle.state.specs.RuleWords.{conclusion_stands, premises_stand}
 use Rattle.reading.specs.Answers.{TermRead}
-use Rattle.referring.specs.Recall.{ReadableAll}
 use Rattle.referring.specs.Referral.{Gathered}
-use Rattle.referring.specs.Derived.{ReadableCells, RuleItems, ItemsRead, cell_vars}
+use Rattle.referring.specs.Derived.{RuleItems, ItemsRead, cell_vars}
 use Rattle.derivation.specs.Stepping.{Concludes, Concludable, UsedRead, concluded, from_items}
 
 module _ {K : Names} {rules rulevars patterns : List ℕ} {n : Sizes} {I W : List ℕ} {m : Mark} {r : ℕ} {cells ids : List ℕ}
@@ -56,21 +55,6 @@ module _ {K : Names} {rules rulevars patterns : List ℕ} {n : Sizes} {I W : Lis
         held = g.given.ruled.held;
       }
 
-  pub rule_known : KnownFormedRule K.symbols rules patterns r
-  rule_known = record { count = n.rules; T = theory; formed = rule_formed; known = g.given.known }
-
-  pub rule_there : KnownRule rules r
-  rule_there =
-      record {
-        text = K.theory;
-        vars = rulevars;
-        patterns = patterns;
-        count = n.rules;
-        words = g.given.ruled.words;
-        held = (theory.rules, g.given.ruled.held);
-        known = g.given.known;
-      }
-
   -- Behind the items ---------------------------------------------------------------------------------------------------------------------
 
   abbrev second : Items → Made → Out Made (Set × Tree)
@@ -97,15 +81,6 @@ module _ {K : Names} {rules rulevars patterns : List ℕ} {n : Sizes} {I W : Lis
     same_args : args_of (made J X new) ids ≡ args_of (made I W m) ids
     same_args = grown_args items_read.went.grown ids g.there
 
-    pub ids_readable : {seen used : List ℕ} → seen ≡ replicate TERMWORDS 0 → used ≡ replicate VARIABLEWORDS 0 → ReadableAll J X new ids seen used
-    ids_readable f h =
-        record {
-          good = items_read.went.grown.good;
-          there = ids_there;
-          wide = ap length f ∙ length-replicate {A = ℕ} TERMWORDS 0;
-          broad = ap length h ∙ length-replicate {A = ℕ} VARIABLEWORDS 0;
-        }
-
     pub none_seen : {seen : List ℕ} (used : Set) → seen ≡ replicate TERMWORDS 0 → Seen J X new (holds seen) used
     none_seen {seen} used f =
         seen_none J X new used seen (f ∙ ap (λ (k : ℕ). replicate {A = ℕ} k 0) (sym (ap length f ∙ length-replicate {A = ℕ} TERMWORDS 0)))
@@ -113,9 +88,6 @@ module _ {K : Names} {rules rulevars patterns : List ℕ} {n : Sizes} {I W : Lis
     -- the variables of the terms, then those of the values
     module _ {used : List ℕ} (u : used ≡ replicate VARIABLEWORDS 0) (seen₁ used₁ : List ℕ)
         (v : Gathered J X new (variables_of (args_of (made J X new) ids)) (holds used) (holds seen₁) (holds used₁)) where
-      pub cells_readable : length seen₁ ≡ TERMWORDS → length used₁ ≡ VARIABLEWORDS → ReadableCells J X new bound seen₁ used₁
-      cells_readable f h = record { good = items_read.went.grown.good; within = items_read.cells.within; wide = f; broad = h }
-
       module _ (seen₂ used₂ : List ℕ) (w : Gathered J X new (cell_vars (made J X new) bound) (holds used₁) (holds seen₂) (holds used₂)) where
         used_is : union (variables_of (args_of (made I W m) ids)) (variables_of items_read.items.values) ≡ holds used₂
         used_is =

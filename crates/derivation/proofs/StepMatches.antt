@@ -3,7 +3,7 @@ use mathlib.Core.Path.{◌≡◌, refl, sym, ap, ◌∙◌, subst}
 use mathlib.Core.Bool.{Bool, true, false, true≢false}
 use Rattle.std.specs.Prelude.{Option, Some as some, None as nothing}
 use mathlib.Core.List.{List}
-use Prim.Native.Nat.{ℕ, suc, ◌<◌}
+use Prim.Native.Nat.{ℕ, suc}
 use native.Mathlib.Omega.{arith}
 use lib.ListN.{length, get_or}
 use Rattle.std.specs.Option.{is_some}
@@ -13,7 +13,7 @@ use Rattle.rules.specs.Store.{Made}
 use Rattle.rules.specs.Match.{Bound, match_all, build}
 use Rattle.rules.specs.Step.{match_stated, conclude}
 use Rattle.terms.specs.declared.store.Mark.{Mark}
-use Rattle.terms.specs.Table.{made, tree, args_of}
+use Rattle.terms.specs.Table.{made, args_of}
 use Rattle.terms.specs.Patterns.{tree_in, bound_of, Stands, Cells, Builds, Stops, Matchable, AllMatchable, Buildable, Matched, matched, other, AllMatched, all, not_all, MatchedAt, MatchedAll}
 use Rattle.terms.specs.On.{On, Stopped, on_start, on_is, on_done, on_went, on_stopped, on_found_some, on_found_none, builds_went, stops_stopped}
 use Rattle.terms.specs.Laws.Growth.{made_length}

@@ -7,7 +7,7 @@ use mathlib.Core.List.{List}
 use Prim.Native.Nat.{ℕ, ◌+◌, ◌-◌, ◌^◌, ◌<◌, ◌≤◌}
 use native.Mathlib.Omega.{arith}
 use native.Mathlib.Decide.{ℕ_discrete}
-use lib.ListN.{length, get_or, set, take, drop, replicate, length-replicate, length-take}
+use lib.ListN.{length, get_or, set, take, drop, replicate, length-take}
 use lib.Seq.{get_or-take, get_or-set_same, get_or-set_other}
 use Rattle.rules.specs.Limits.{FACTWORDS, RULEWORDS}
 use Rattle.rules.specs.Out.{Out, ok, then}
@@ -41,7 +41,8 @@ use Rattle.reading.specs.Laws.Walks.{walk_next, then_same}
 use Rattle.derivation.proofs.StepJoins.{joined, joined_none, joined_ref, before_none, then_other, references_one, references_stop, joins_under, rests_below}
 
 -- zs are left in the cells from a place on; k are read
-pub record Left (K : Names) (facts footings lists : List ℕ) (n : Sizes) (I W : List ℕ) (old : Mark) (cells : List ℕ) (S : State) (xs : Sexps) (J X : List ℕ) (now : Mark) (ids hyps footing : List ℕ) (k many at : ℕ) : Type 0 where
+pub record Left (K : Names) (facts footings lists : List ℕ) (n : Sizes) (I W : List ℕ) (old : Mark) (cells : List ℕ) (S : State) (xs : Sexps)
+    (J X : List ℕ) (now : Mark) (ids hyps footing : List ℕ) (k many at : ℕ) : Type 0 where
   pub zs : Sexps
   pub walk : Walk K.text cells at zs
   pub refers : Refers K facts footings lists n J X now S
@@ -69,10 +70,12 @@ instances_few false = omega arith
 
 -- a set without members
 none_under : (n : ℕ) (s : List ℕ) (w : ℕ) → s ≡ replicate w 0 → Under n (holds s)
-none_under n s w e v f = absurd (let z : true ≡ false = sym f ∙ ap (λ (l : List ℕ). holds l v) e ∙ ap (λ (a : ℕ → Bool). a v) (holds_zero w) in let q : ◌≡◌ {A = ℕ} 0 1 = cc in omega arith)
+none_under n s w e v f =
+    absurd (let z : true ≡ false = sym f ∙ ap (λ (l : List ℕ). holds l v) e ∙ ap (λ (a : ℕ → Bool). a v) (holds_zero w) in let q : ◌≡◌ {A = ℕ} 0 1 = cc in omega arith)
 
 pub refs_start : {K : Names} {facts footings lists : List ℕ} {n : Sizes} {I W : List ℕ} {m : Mark} {cells ids hyps footing : List ℕ} →
-    hyps ≡ replicate FACTWORDS 0 → footing ≡ replicate RULEWORDS 0 → {k at : ℕ} → k ≡ 0 → at ≡ 0 → RefsSoFar K facts footings lists n I W m cells I W m ids hyps footing k 0 at
+    hyps ≡ replicate FACTWORDS 0 → footing ≡ replicate RULEWORDS 0 → {k at : ℕ} → k ≡ 0 → at ≡ 0 →
+    RefsSoFar K facts footings lists n I W m cells I W m ids hyps footing k 0 at
 refs_start {K = K} {facts} {footings} {lists} {n} {I} {W} {m} {cells = cells} {ids = ids} {hyps} {footing} a b {at = at} y z g =
     subst (λ (k : ℕ). Left K facts footings lists n I W m cells g.S g.xs I W m ids hyps footing k 0 at) (sym y) (record {
       zs = g.xs;
@@ -97,7 +100,8 @@ module _ {K : Names} {facts footings lists : List ℕ} {n : Sizes} {I W : List �
       let c : k ≡ count xs = omega (arith, l.counted, ap count z) in
       record {
         refs = joined (args_of (made J X now) (take k ids)) (holds hyps) (holds footing) many no_refs;
-        went = on_done (on_is l.on (ap (λ (zs : Sexps). then (references S zs (made J X now)) (λ rs s. ok (joined (args_of (made J X now) (take k ids)) (holds hyps) (holds footing) many rs) s)) z));
+        went = on_done (on_is l.on
+            (ap (λ (zs : Sexps). then (references S zs (made J X now)) (λ rs s. ok (joined (args_of (made J X now) (take k ids)) (holds hyps) (holds footing) many rs) s)) z));
         judgments = ap (λ (i : ℕ). args_of (made J X now) (take i ids)) (sym c) ∙ sym (before_none (args_of (made J X now) (take k ids)));
         there = λ i b. l.there i (omega (arith, c));
         rests = sym (union_empty (holds hyps));
@@ -169,7 +173,8 @@ module _ {K : Names} {facts footings lists : List ℕ} {n : Sizes} {I W : List �
       there_more : (v : ℕ) → k < length ids → v < k + 1 → get_or (set ids k j) v 0 < new.terms
       there_more v room h = elim (ℕ_discrete v k) [
         | yes q ↦ let z : get_or (set ids k j) v 0 ≡ j = ap (λ (u : ℕ). get_or (set ids k j) u 0) q ∙ get_or-set_same ids k j 0 room in omega (arith, z, left_ref.there)
-        | no q ↦ let z : get_or (set ids k j) v 0 ≡ get_or ids v 0 = get_or-set_other ids k v j 0 q in let a : v < k = omega arith in omega (arith, z, l.there v a, left_ref.went.grown.more)
+        | no q ↦ let z : get_or (set ids k j) v 0 ≡ get_or ids v 0 = get_or-set_other ids k v j 0 q in
+            let a : v < k = omega arith in omega (arith, z, l.there v a, left_ref.went.grown.more)
       ]
 
       -- what the reference brings has joined, and c is 1 for an instance

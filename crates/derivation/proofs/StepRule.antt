@@ -262,6 +262,7 @@ module _ {K : Names} {rules rulevars patterns facts footings lists : List ℕ} {
 
               pub by_answer : (b : k ≤ length ids) (l : length hyps ≡ FACTWORDS) (Y Z : List ℕ) (now : Mark) (a : Result Derived Question) →
                   ((h : Scopes K (rule_lists K.theory rules rulevars patterns) facts lists n J X new r cells (take k ids) hyps) →
-                  ScopedBy J X Y Z new now (in_scope h.S (rule h.S.theory r) (args_of (made J X new) (take k ids)) (rising (length h.S.facts) (holds hyps)) (rest h.xs 4) (made J X new)) brought' a) →
+                  ScopedBy J X Y Z new now
+                  (in_scope h.S (rule h.S.theory r) (args_of (made J X new) (take k ids)) (rising (length h.S.facts) (holds hyps)) (rest h.xs 4) (made J X new)) brought' a) →
                   DerivedBy (Fact × ℕ) I W Y Z m now g.S whole with_instances a
               by_answer b l Y Z now a t = by_answers Y Z now a (t (by_scopes b l))

@@ -1,5 +1,5 @@
 -- Question 39 behind the conclusion of a step: what stays readable, and the definition's answer. Assumes nothing.
-use mathlib.Core.Path.{◌≡◌, refl, sym, ap, ◌∙◌, subst}
+use mathlib.Core.Path.{◌≡◌, sym, ap, ◌∙◌}
 use mathlib.Core.List.{List, [], ◌∷◌}
 use Prim.Native.Nat.{ℕ, suc, ◌+◌, ◌-◌, ◌^◌, ◌<◌, ◌≤◌}
 use native.Mathlib.Omega.{arith}
@@ -100,7 +100,8 @@ module _ {K : Names} {rules rulevars patterns facts lists : List ℕ} {n : Sizes
         Stopped I W J X m (from_items h.given.S (rule h.given.S.theory r) (args_of (made I W m) ids) h.given.xs (made I W m)) q d new) → Stopped I W J X m whole q d new
     scope_refused p = on_no second on_first (p scope_given)
 
-    module _ {J X used : List ℕ} {new : Mark} {j : ℕ} (p : (h : Concludes K (rule_lists K.theory rules rulevars patterns) n I W m r (take (length cells - at) (drop at cells)) ids) →
+    module _ {J X used : List ℕ} {new : Mark} {j : ℕ}
+        (p : (h : Concludes K (rule_lists K.theory rules rulevars patterns) n I W m r (take (length cells - at) (drop at cells)) ids) →
         UsedRead I W J X m (from_items h.given.S (rule h.given.S.theory r) (args_of (made I W m) ids) h.given.xs (made I W m)) used j new) where
       used_read : UsedRead I W J X m first used j new
       used_read = p scope_given
@@ -134,7 +135,9 @@ module _ {K : Names} {rules rulevars patterns facts lists : List ℕ} {n : Sizes
       module _ {v : ℕ} (q : (h : Recalls facts lists n J X new) →
           v ≡ least (length h.S.vars) (minus (holds used) (union (variables (tree J X new j)) (hyp_vars h.S.facts (rising (length h.S.facts) (holds hyps)))))) where
         pub scope_fits : v < 2 ^ 32
-        scope_fits = omega (arith, q scope_recalls, least_most (length g.S.vars) (minus (holds used) (union (variables (tree J X new j)) (hyp_vars g.S.facts hypotheses))), g.refers.recorded.rows.row7)
+        scope_fits =
+            let l = least_most (length g.S.vars) (minus (holds used) (union (variables (tree J X new j)) (hyp_vars g.S.facts hypotheses))) in
+            omega (arith, q scope_recalls, l, g.refers.recorded.rows.row7)
 
         pub scope_outside : {w : ℕ} → v ≡ suc w → Stopped I W J X m whole 39 (w + 1) new
         scope_outside {w} h =

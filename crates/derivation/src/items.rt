@@ -56,7 +56,8 @@ impl Said {
         requires { ReadsRuleItem reader.now rule.now store.old cells.now self.old × (start < length reader.now.text.now) }
         ensures same_tables { SameTables store.old store.new }
         ensures item_as { (g : ReadsRuleItem reader.now rule.now store.old cells.now self.old) →
-            ItemAs store.old store.new (bind_item g.S (rule_in g.S.theory rule.now.number) (letters (drop start reader.now.text.now)) g.x g.it (made_of store.old)) self.old self.new result }
+            let name = letters (drop start reader.now.text.now) in
+            ItemAs store.old store.new (bind_item g.S (rule_in g.S.theory rule.now.number) name g.x g.it (made_of store.old)) self.old self.new result }
     {
         let OneRule { rules, number } = *rule;
         let end = lex::atom_end(reader.text, start);

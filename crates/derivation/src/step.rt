@@ -34,16 +34,16 @@ use terms::store::{Store, Terms};
 
 // What references bring: how many of them are instances, and what they rest on.
 #[derive(Clone, Copy)]
-pub struct Brought {
-    pub instances: usize,
-    pub support: Support,
+struct Brought {
+    instances: usize,
+    support: Support,
 }
 
 // A conclusion by its number, and the variables that are used for it, as a set.
 #[derive(Clone, Copy)]
-pub struct Concluded {
-    pub judgment: usize,
-    pub used: [u64; VARIABLEWORDS],
+struct Concluded {
+    judgment: usize,
+    used: [u64; VARIABLEWORDS],
 }
 
 // All references: their judgments' numbers come into the first cells of `ids`. `memo` is scratch: zero before and after.
@@ -233,7 +233,8 @@ fn step_on(
     requires { ScopesIn source.now rule.now store.old cells.now ids.now brought.now.support }
     ensures same_tables { SameTables store.old store.new }
     ensures scoped_as { (g : ScopesIn source.now rule.now store.old cells.now ids.now brought.now.support) → let M = made_of store.old in
-        ScopedAs store.old store.new (in_scope g.S (rule_in g.S.theory rule.now.number) (args_of M ids.now) (rising (length g.S.facts) (holds brought.now.support.hyps)) (rest g.xs 4) M) brought.now result }
+        let hs = rising (length g.S.facts) (holds brought.now.support.hyps) in
+        ScopedAs store.old store.new (in_scope g.S (rule_in g.S.theory rule.now.number) (args_of M ids.now) hs (rest g.xs 4) M) brought.now result }
 {
     let at = items::place(cells, 4);
     let Concluded { judgment, used } = conclude(&source.reader, rule, store, &cells[at..], ids)?;

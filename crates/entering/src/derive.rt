@@ -1,357 +1,166 @@
 // Forms of derived facts: what `step`, `apply`, an induction or an inversion finds comes behind the facts.
-ghost use Rattle.std.specs.Prelude.{◌≡◌, ◌*◌, length, replicate};
-ghost use Rattle.rules.specs.Limits.{FACTS, PATTERNS, VARIABLES};
-ghost use Rattle.rules.specs.Forms.{add_step, add_apply, add_induct, add_induct_with, add_invert, some_instances};
-ghost use Rattle.state.specs.Held.{names, rule_lists, records};
+ghost use Rattle.std.specs.Prelude.{◌≡◌, ◌*◌, length};
+ghost use Rattle.rules.specs.Limits.{FACTS};
+ghost use Rattle.terms.specs.Lent.{SameTables};
 ghost use Rattle.state.specs.Rows.{Putting};
-ghost use Rattle.entering.specs.Entered.{AddsInstance, AddsDerived, Scratch, Spare, EnteredAs, EnterAs, Words, an_induction};
-ghost use Rattle.induction.specs.Inducing.{IDS};
-ghost use Rattle.entering.specs.Inverted.{AddsInversion, InversionAs};
+ghost use Rattle.forms.specs.Boards.{records_of, SameBoard, OnlyFacts, OnlyFactsAndVars};
+ghost use Rattle.entering.specs.Entered.{way_counts, Spare, FindsBy, FoundBy, AddsBy, AddedBy, EnterAs, Words};
+ghost use Rattle.entering.specs.Inverted.{AddsInversionIn, InvertedBy};
 
-use cells::clear;
+use counts::{Counts, no_counts};
 use derivation::apply::apply;
 use derivation::step::step;
 use induction::induct::{induct, induct_with};
-use inversion::invert::{Inverted, invert};
-use referring::derived::Derived;
-use rules::{FACTWORDS, PAIRS, RULEWORDS, VARIABLES};
+use inversion::invert::{invert, put_made};
+use kernel::rule_readers::Rules;
+use questions::{Question, Row};
+use referring::source::{Source, source_of};
+use referring::support::Derived;
+use rules::{PATTERNS, VARIABLES};
+use state::board::{Board, Given};
 use state::facts::put_derived;
-use state::sizes::Sizes;
-use terms::store::Mark;
+use terms::store::Store;
 
-// A derived fact is there: so many entries of the lists are used, and so many instances it has; or a question and its detail. What is used of the store then.
-#[derive(Clone, Copy)]
-pub enum Entered {
-    Ok(usize, usize, Mark),
-    No(usize, usize, Mark),
+// How a derived fact is found.
+#[derive(Clone, Copy, Debug, PartialEq, Eq)]
+pub enum Way {
+    Step,
+    Apply,
+    Induct,
+    InductWith,
 }
 
-// A derived fact behind the others.
-fn enter(
-    facts: &mut [u32],
-    footings: &mut [u64],
-    lists: &mut [u32],
-    n: Sizes,
-    judgment: usize,
-    instances: usize,
-    mark: Mark,
-    hyps: &[u64],
-    footing: &[u64],
-) -> Entered
-    requires putting { Putting (records facts.old footings.old lists.old) n judgment }
+impl Way {
+    // What such a form counts; the instances among its references are counted where it is a step.
+    fn counts(self, instances: usize) -> Counts
+        ensures { result ≡ way_counts self instances }
+    {
+        match self {
+            Way::Step => Counts {
+                instances,
+                ..no_counts()
+            },
+            Way::Apply => no_counts(),
+            Way::Induct | Way::InductWith => Counts {
+                inductions: 1,
+                ..no_counts()
+            },
+        }
+    }
+}
+
+// What the form derives, by its items. `memo` and `ids` are scratch: zero before and after.
+fn find(
+    source: &Source<'_>,
+    rules: &Rules<'_>,
+    store: &mut Store<'_>,
+    cells: &[u32],
+    way: Way,
+    memo: &mut [u32],
+    ids: &mut [u32],
+) -> Result<Derived, Question>
+    requires finds { FindsBy way source.now rules.now store.old cells.now }
+    requires spare { Spare ids.old memo.old }
+    ensures same_tables { SameTables store.old store.new }
+    ensures found { FoundBy way source.now rules.now store.old store.new cells.now result }
+    ensures memo_unchanged { (memo.new ≡ memo.old) × (ids.new ≡ ids.old) }
+{
+    match way {
+        Way::Step => step(source, rules, store, cells, memo, &mut ids[..PATTERNS]),
+        Way::Apply => apply(source, store, cells, memo),
+        Way::Induct => induct(source, store, cells, memo, ids),
+        Way::InductWith => induct_with(source, store, cells, memo, ids),
+    }
+}
+
+// A derived fact comes behind the others, which rests on such hypotheses and rules.
+fn enter(board: &mut Board<'_>, judgment: usize, hyps: &[u64], footing: &[u64]) -> Result<(), Row>
+    requires putting { Putting (records_of board.old) board.old.n judgment }
     requires hyps_value { (64 * length hyps.now ≡ FACTS) × (length footing.now ≡ 4) }
-    ensures enter_as { EnterAs (records facts.old footings.old lists.old) (records facts.new footings.new lists.new) n judgment instances mark
-        hyps.now footing.now result }
+    ensures same_board { SameBoard board.old board.new }
+    ensures only { OnlyFacts board.old board.new }
+    ensures enter_as { EnterAs board.old board.new judgment hyps.now footing.now result }
     ensures words { Words footing.now }
 {
-    match put_derived(facts, footings, lists, n, judgment, hyps, footing) {
-        Ok(e) => Entered::Ok(e, instances, mark),
-        Err(row) => Entered::No(60, row.number(), mark),
-    }
+    let n = board.n;
+    let entries = put_derived(
+        board.facts,
+        board.footings,
+        board.lists,
+        n,
+        judgment,
+        hyps,
+        footing,
+    )?;
+    board.n.facts += 1;
+    board.n.entries = entries;
+    Ok(())
 }
 
-// `(step N RULE (REF...) ITEM...)`, by the items of the form. `map`, `memo` and `ids` are scratch: zero before and after.
-pub fn add_step(
-    theory: &[u8],
-    goals: &[u8],
-    text: &[u8],
-    symbols: &[u32],
-    inputs: &[u32],
-    rules: &[u32],
-    rulevars: &[u32],
-    patterns: &[u32],
-    vars: &[u32],
-    defs: &[u32],
-    facts: &mut [u32],
-    footings: &mut [u64],
-    lists: &mut [u32],
-    n: Sizes,
-    index: &mut [u32],
-    words: &mut [u32],
-    mark: Mark,
+// What was derived comes behind the facts.
+fn enter_derived(board: &mut Board<'_>, derived: &Derived) -> Result<(), Row>
+    requires { Putting (records_of board.old) board.old.n derived.now.judgment }
+    ensures same_board { SameBoard board.old board.new }
+    ensures only { OnlyFacts board.old board.new }
+    ensures enter_as { EnterAs board.old board.new derived.now.judgment derived.now.support.hyps derived.now.support.footing result }
+    ensures words { Words derived.now.support.footing × (length derived.now.support.footing ≡ 4) }
+{
+    let support = &derived.support;
+    enter(board, derived.judgment, &support.hyps, &support.footing)
+}
+
+// `(step N RULE (REF...) ITEM...)`, `(apply N M (BINDING...) (REF...))`, `(induct N X JUDGMENT (CASE...))` or `(induct N X (HYP...) JUDGMENT (CASE...))`,
+// by the items of the form. `memo` and `ids` are scratch: zero before and after.
+pub fn add_derived(
+    given: &Given<'_>,
+    board: &mut Board<'_>,
+    store: &mut Store<'_>,
     cells: &[u32],
-    map: &mut [u32],
+    way: Way,
     memo: &mut [u32],
     ids: &mut [u32],
-) -> Entered
-    requires adds_instance { AddsInstance (names theory.now goals.now text.now symbols.now inputs.now vars.now defs.now) (rule_lists theory.now rules.now rulevars.now patterns.now) facts.old footings.old lists.old n index.old words.old mark cells.now 4 }
-    requires scratch { Scratch map.old memo.old × (ids.old ≡ replicate PATTERNS 0) }
-    ensures entered_as { (g : AddsInstance (names theory.now goals.now text.now symbols.now inputs.now vars.now defs.now) (rule_lists theory.now rules.now rulevars.now patterns.now) facts.old footings.old lists.old n index.old words.old mark cells.now 4) →
-        EnteredAs (records facts.old footings.old lists.old) (records facts.new footings.new lists.new) n index.old words.old index.new words.new mark g.form.S (add_step g.form.xs g.form.S) some_instances result }
-    ensures map_unchanged { (map.new ≡ map.old) × (memo.new ≡ memo.old) × (ids.new ≡ ids.old) }
-{
-    let mut hyps = [0u64; FACTWORDS];
-    let mut footing = [0u64; RULEWORDS];
-    match step(
-        theory,
-        goals,
-        text,
-        symbols,
-        inputs,
-        rules,
-        rulevars,
-        patterns,
-        vars,
-        defs,
-        facts,
-        footings,
-        lists,
-        n,
-        index,
-        words,
-        mark,
-        cells,
-        map,
-        memo,
-        ids,
-        &mut hyps,
-        &mut footing,
-    ) {
-        Derived::Ok(j, k, m) => enter(facts, footings, lists, n, j, k, m, &hyps, &footing),
-        Derived::No(q, d, m) => Entered::No(q, d, m),
-    }
-}
-
-// `(apply N M (BINDING...) (REF...))`, by the items of the form. `bound`, `map` and `memo` are scratch: zero before and after.
-pub fn add_apply(
-    theory: &[u8],
-    goals: &[u8],
-    text: &[u8],
-    symbols: &[u32],
-    inputs: &[u32],
-    vars: &[u32],
-    defs: &[u32],
-    facts: &mut [u32],
-    footings: &mut [u64],
-    lists: &mut [u32],
-    n: Sizes,
-    index: &mut [u32],
-    words: &mut [u32],
-    mark: Mark,
-    cells: &[u32],
-    bound: &mut [u32],
-    map: &mut [u32],
-    memo: &mut [u32],
-) -> Entered
-    requires adds_derived { AddsDerived (names theory.now goals.now text.now symbols.now inputs.now vars.now defs.now) facts.old footings.old lists.old n index.old words.old mark cells.now 5 }
-    requires scratch { Scratch map.old memo.old × (bound.old ≡ replicate VARIABLES 0) }
-    ensures entered_as { (g : AddsDerived (names theory.now goals.now text.now symbols.now inputs.now vars.now defs.now) facts.old footings.old lists.old n index.old words.old mark cells.now 5) →
-        EnteredAs (records facts.old footings.old lists.old) (records facts.new footings.new lists.new) n index.old words.old index.new words.new mark g.form.S (add_apply g.form.xs g.form.S) some_instances result }
-    ensures map_unchanged { (map.new ≡ map.old) × (memo.new ≡ memo.old) × (bound.new ≡ bound.old) }
-{
-    let mut hyps = [0u64; FACTWORDS];
-    let mut footing = [0u64; RULEWORDS];
-    match apply(
-        theory,
-        goals,
-        text,
-        symbols,
-        inputs,
-        vars,
-        defs,
-        facts,
-        footings,
-        lists,
-        n,
-        index,
-        words,
-        mark,
-        cells,
-        bound,
-        map,
-        memo,
-        &mut hyps,
-        &mut footing,
-    ) {
-        Derived::Ok(j, _, m) => enter(facts, footings, lists, n, j, 0, m, &hyps, &footing),
-        Derived::No(q, d, m) => Entered::No(q, d, m),
-    }
-}
-
-// `(induct N X JUDGMENT (CASE...))`, by the items of the form. `map`, `memo` and `ids` are scratch: zero before and after.
-pub fn add_induct(
-    theory: &[u8],
-    goals: &[u8],
-    text: &[u8],
-    symbols: &[u32],
-    inputs: &[u32],
-    vars: &[u32],
-    defs: &[u32],
-    facts: &mut [u32],
-    footings: &mut [u64],
-    lists: &mut [u32],
-    n: Sizes,
-    index: &mut [u32],
-    words: &mut [u32],
-    mark: Mark,
-    cells: &[u32],
-    map: &mut [u32],
-    memo: &mut [u32],
-    ids: &mut [u32],
-) -> Entered
-    requires adds_derived { AddsDerived (names theory.now goals.now text.now symbols.now inputs.now vars.now defs.now) facts.old footings.old lists.old n index.old words.old mark cells.now 5 }
-    requires scratch { Scratch map.old memo.old × (ids.old ≡ replicate IDS 0) }
-    ensures entered_as { (g : AddsDerived (names theory.now goals.now text.now symbols.now inputs.now vars.now defs.now) facts.old footings.old lists.old n index.old words.old mark cells.now 5) →
-        EnteredAs (records facts.old footings.old lists.old) (records facts.new footings.new lists.new) n index.old words.old index.new words.new mark g.form.S (add_induct g.form.xs g.form.S) an_induction result }
-    ensures map_unchanged { (map.new ≡ map.old) × (memo.new ≡ memo.old) × (ids.new ≡ ids.old) }
-{
-    let mut hyps = [0u64; FACTWORDS];
-    let mut footing = [0u64; RULEWORDS];
-    match induct(
-        theory,
-        goals,
-        text,
-        symbols,
-        inputs,
-        vars,
-        defs,
-        facts,
-        footings,
-        lists,
-        n,
-        index,
-        words,
-        mark,
-        cells,
-        map,
-        memo,
-        ids,
-        &mut hyps,
-        &mut footing,
-    ) {
-        Derived::Ok(j, _, m) => enter(facts, footings, lists, n, j, 0, m, &hyps, &footing),
-        Derived::No(q, d, m) => Entered::No(q, d, m),
-    }
-}
-
-// `(induct N X (HYP...) JUDGMENT (CASE...))`, by the items of the form. `map`, `memo` and `ids` are scratch: zero before and after.
-pub fn add_induct_with(
-    theory: &[u8],
-    goals: &[u8],
-    text: &[u8],
-    symbols: &[u32],
-    inputs: &[u32],
-    vars: &[u32],
-    defs: &[u32],
-    facts: &mut [u32],
-    footings: &mut [u64],
-    lists: &mut [u32],
-    n: Sizes,
-    index: &mut [u32],
-    words: &mut [u32],
-    mark: Mark,
-    cells: &[u32],
-    map: &mut [u32],
-    memo: &mut [u32],
-    ids: &mut [u32],
-) -> Entered
-    requires adds_derived { AddsDerived (names theory.now goals.now text.now symbols.now inputs.now vars.now defs.now) facts.old footings.old lists.old n index.old words.old mark cells.now 6 }
-    requires scratch { Scratch map.old memo.old × (ids.old ≡ replicate IDS 0) }
-    ensures entered_as { (g : AddsDerived (names theory.now goals.now text.now symbols.now inputs.now vars.now defs.now) facts.old footings.old lists.old n index.old words.old mark cells.now 6) →
-        EnteredAs (records facts.old footings.old lists.old) (records facts.new footings.new lists.new) n index.old words.old index.new words.new mark g.form.S (add_induct_with g.form.xs g.form.S) an_induction result }
-    ensures map_unchanged { (map.new ≡ map.old) × (memo.new ≡ memo.old) × (ids.new ≡ ids.old) }
-{
-    let mut hyps = [0u64; FACTWORDS];
-    let mut footing = [0u64; RULEWORDS];
-    match induct_with(
-        theory,
-        goals,
-        text,
-        symbols,
-        inputs,
-        vars,
-        defs,
-        facts,
-        footings,
-        lists,
-        n,
-        index,
-        words,
-        mark,
-        cells,
-        map,
-        memo,
-        ids,
-        &mut hyps,
-        &mut footing,
-    ) {
-        Derived::Ok(j, _, m) => enter(facts, footings, lists, n, j, 0, m, &hyps, &footing),
-        Derived::No(q, d, m) => Entered::No(q, d, m),
-    }
-}
-
-// `(invert N K (HYP...) JUDGMENT (CASE...))`, by the items of the form; where it is taken, the answer's second number is how many variables there are then.
-// `ids` and `memo` are scratch: zero before and after.
-pub fn add_invert(
-    theory: &[u8],
-    goals: &[u8],
-    text: &[u8],
-    symbols: &[u32],
-    inputs: &[u32],
-    rules: &[u32],
-    rulevars: &[u32],
-    patterns: &[u32],
-    vars: &mut [u32],
-    defs: &[u32],
-    facts: &mut [u32],
-    footings: &mut [u64],
-    lists: &mut [u32],
-    n: Sizes,
-    index: &mut [u32],
-    words: &mut [u32],
-    mark: Mark,
-    cells: &[u32],
-    ids: &mut [u32],
-    memo: &mut [u32],
-) -> Entered
-    requires adds_inversion { AddsInversion (names theory.now goals.now text.now symbols.now inputs.now vars.old defs.now) (rule_lists theory.now rules.now rulevars.now patterns.now) facts.old footings.old lists.old n index.old words.old mark cells.now }
+) -> Result<Counts, Question>
+    requires adds { AddsBy way given.now board.old store.old cells.now }
     requires spare { Spare ids.old memo.old }
-    ensures inversion_as { (g : AddsInversion (names theory.now goals.now text.now symbols.now inputs.now vars.old defs.now) (rule_lists theory.now rules.now rulevars.now patterns.now) facts.old footings.old lists.old n index.old words.old mark cells.now) →
-        InversionAs goals.now text.now (records facts.old footings.old lists.old) (records facts.new footings.new lists.new) n index.old words.old index.new words.new mark g.form.S (add_invert g.form.xs g.form.S) vars.old vars.new result }
-    ensures ids_unchanged { (ids.new ≡ ids.old) × (memo.new ≡ memo.old) }
+    ensures same_board { SameBoard board.old board.new × SameTables store.old store.new }
+    ensures only { OnlyFacts board.old board.new }
+    ensures added { AddedBy way given.now board.old board.new store.old store.new cells.now result }
+    ensures memo_unchanged { (memo.new ≡ memo.old) × (ids.new ≡ ids.old) }
 {
-    let mut map = [0u32; VARIABLES];
-    let mut theta = [0u32; VARIABLES];
-    let mut pairs = [0u32; 2 * PAIRS];
-    let mut hyps = [0u64; FACTWORDS];
-    let mut footing = [0u64; RULEWORDS];
-    match invert(
-        theory,
-        goals,
-        text,
-        symbols,
-        inputs,
-        rules,
-        rulevars,
-        patterns,
-        vars,
-        defs,
-        facts,
-        footings,
-        lists,
-        n,
-        index,
-        words,
-        mark,
-        cells,
-        &mut map,
-        memo,
-        &mut theta,
-        &mut pairs,
-        ids,
-        &mut hyps,
-        &mut footing,
-    ) {
-        Inverted::Ok(j, k, m) => {
-            match enter(facts, footings, lists, n, j, k, m, &hyps, &footing) {
-                Entered::Ok(e, many, new) => Entered::Ok(e, many, new),
-                Entered::No(q, d, new) => {
-                    let from = 4 * n.vars;
-                    clear(&mut vars[from..]);
-                    Entered::No(q, d, new)
-                }
-            }
-        }
-        Inverted::No(q, d, m) => Entered::No(q, d, m),
-    }
+    let given = *given;
+    let source = source_of(&given, board);
+    let derived = find(&source, &given.rules, store, cells, way, memo, ids)?;
+    enter_derived(board, &derived)?;
+    Ok(way.counts(derived.instances))
+}
+
+// `(invert N K (HYP...) JUDGMENT (CASE...))`, by the items of the form. The variables that it makes come behind the others. `memo` and `ids` are scratch:
+// zero before and after.
+pub fn add_invert(
+    given: &Given<'_>,
+    board: &mut Board<'_>,
+    store: &mut Store<'_>,
+    cells: &[u32],
+    memo: &mut [u32],
+    ids: &mut [u32],
+) -> Result<Counts, Question>
+    requires adds_inversion { AddsInversionIn given.now board.old store.old cells.now }
+    requires spare { Spare ids.old memo.old }
+    ensures same_board { SameBoard board.old board.new × SameTables store.old store.new }
+    ensures only { OnlyFactsAndVars board.old board.new }
+    ensures inverted { InvertedBy given.now board.old board.new store.old store.new cells.now result }
+    ensures memo_unchanged { (memo.new ≡ memo.old) × (ids.new ≡ ids.old) }
+{
+    let given = *given;
+    let source = source_of(&given, board);
+    let mut sorts = [0; VARIABLES];
+    let inverted = invert(&source, &given.rules, store, cells, &mut sorts, memo, ids)?;
+    enter_derived(board, &inverted.derived)?;
+    let count = board.n.vars;
+    put_made(board.vars, &sorts, count, inverted.vars);
+    board.n.vars = inverted.vars;
+    Ok(Counts {
+        inversions: 1,
+        ..no_counts()
+    })
 }

@@ -42,6 +42,7 @@ pub extern "C" fn tariff_read(text: &[u8], words: &mut [u32]) -> usize
 {
     let mut at = 0;
     let mut forms = 0;
+    // from form to form, which is no count
     loop {
         let form = match read_form(text, at, words) {
             Ok(Some(form)) => form,

@@ -1,14 +1,14 @@
 -- What becomes of a table of facts when a record is put in behind the first ones, and when records are made blank. Assumes nothing.
-use Rattle.std.specs.Prelude.{◌≡◌, refl, ℕ, suc, ◌+◌, ◌-◌, ◌<◌, ◌≤◌, Bool, true, false, List, [], ◌∷◌, ◌++◌, length, set, take, drop, replicate}
+use Rattle.std.specs.Prelude.{◌≡◌, refl, ℕ, suc, ◌+◌, ◌-◌, ◌<◌, ◌≤◌, List, [], ◌∷◌, ◌++◌, length, set, take, drop, replicate, Option, Some as some, None as nothing}
 use Rattle.std.proofs.Common.{sym, ap, ◌∙◌, arith, add-one, append_assoc, length-set, length-append, length-drop, take-append-drop, length-take-le, take-suc-set, drop-set-lt, take_at, drop_at}
 use Rattle.std.proofs.lemmas.List.{length-replicate}
 use Rattle.std.proofs.Math.Seq.{append_snoc}
 use Rattle.facts.specs.declared.Fact.{Fact}
 use Rattle.facts.specs.Table.{blank, appended, zeroed}
 
-pub length_appended : (stored : Bool) (ys : List Fact) (i : ℕ) (f : Fact) → length (appended stored ys i f) ≡ length ys
-length_appended true ys i f = length-set ys i f
-length_appended false ys i f = refl
+pub length_appended : (stored : Option Fact) (ys : List Fact) (i : ℕ) → length (appended stored ys i) ≡ length ys
+length_appended (some f) ys i = length-set ys i f
+length_appended nothing ys i = refl
 
 -- the first n and the new one
 pub take_appended : (ys : List Fact) (n : ℕ) (f : Fact) → n < length ys → take (n + 1) (set ys n f) ≡ take n ys ++ (f ∷ [])

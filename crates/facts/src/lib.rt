@@ -2,7 +2,8 @@
 // takes it by value.
 #![tactic(auto)]
 
-ghost use Rattle.std.specs.Prelude.{◌≡◌, true, not, ◌<◌, ◌≤◌, eqb, length, get_or, set};
+ghost use Rattle.std.specs.Prelude.{◌≡◌, not, ◌<◌, ◌≤◌, eqb, length, get_or, set, Some, None};
+ghost use Rattle.facts.specs.declared.Fact.{Fact};
 ghost use Rattle.facts.specs.Table.{blank, appended, zeroed};
 
 // The number of its judgment; 1 if it is assumed; the first entry of its lists; how many hypotheses, premises and generalised variables they
@@ -66,11 +67,11 @@ pub fn append(facts: &mut [Fact], i: usize, f: Fact)
 }
 
 // The same where a fact is stored: i is a place of the table only then.
-pub fn append_if(facts: &mut [Fact], stored: bool, i: usize, f: Fact)
-    requires { stored ≡ true → i < length facts.old }
-    ensures { facts.new ≡ appended stored facts.old i f }
+pub fn append_if(facts: &mut [Fact], i: usize, stored: Option<Fact>)
+    requires { (f : Fact) → stored ≡ Some f → i < length facts.old }
+    ensures { facts.new ≡ appended stored facts.old i }
 {
-    if stored {
+    if let Some(f) = stored {
         append(facts, i, f);
     }
 }

@@ -3,16 +3,16 @@ use mathlib.Core.Path.{◌≡◌, refl, sym, ap, ◌∙◌, subst}
 use mathlib.Core.Bool.{Bool, true, false, ◌&&◌, not}
 use Rattle.std.specs.Prelude.{Option, None as nothing}
 use mathlib.Core.List.{List, [], ◌∷◌}
-use Prim.Native.Nat.{ℕ, zero, suc, ◌+◌, ◌-◌, ◌*◌, ◌<◌, ◌≤◌}
+use Prim.Native.Nat.{ℕ, zero, suc, ◌+◌, ◌*◌, ◌<◌, ◌≤◌}
 use native.Mathlib.Omega.{arith}
 use lib.Dec.{eqb, ltb}
 use native.Mathlib.Numerals.{add-one}
-use lib.ListN.{length, get_or, take, drop, drop_of_length-le}
+use lib.ListN.{length, get_or, drop, drop_of_length-le}
 use lib.Seq.{drop-cons}
 use Rattle.state.specs.Entries.{part}
 use borrow.Author.Tests.{eq-eqb, ne_eqb, ltb-false}
 use Rattle.rules.specs.Limits.{FACTS}
-use Rattle.rules.specs.Out.{Out, then, found, ask}
+use Rattle.rules.specs.Out.{Out, ok, refuse, then, found, ask}
 use Rattle.rules.specs.Find.{any, all, entry}
 use Rattle.rules.specs.Tree.{Tree, same_tree, same_trees}
 use Rattle.rules.specs.Store.{Made}
@@ -26,13 +26,13 @@ use Rattle.terms.specs.Sets.{holds}
 use Rattle.terms.specs.Laws.Growth.{made_length}
 use Rattle.terms.specs.Laws.Numbers.{same_number}
 use Rattle.state.specs.declared.sizes.Sizes.{Sizes}
-use Rattle.state.specs.declared.facts.Span.{Span}
 use Rattle.state.specs.Held.{records}
 use Rattle.state.specs.Rows.{cell, hyps_span, premises_span, general_span, plain_row}
 use Rattle.state.specs.RowTables.{tabled_long}
-use Rattle.state.specs.FactLaws.{FactRow, fact_row_lem, facts_tabled, lists_long}
-use Rattle.referring.specs.Recall.{fact_of}
-use Rattle.induction.specs.Inducing.{Below, hyps_in, row_among, plain_at, Resting, case_fact, question}
+use Rattle.state.specs.FactLaws.{FactRow, fact_row_lem, facts_tabled}
+use Rattle.referring.specs.Recall.{fact_of, RecallsFact}
+use Rattle.referring.specs.Substitutes.{Below}
+use Rattle.induction.specs.Inducing.{hyps_in, row_among, plain_at, Resting, case_fact}
 use Rattle.induction.proofs.Rests.{other, rows_are}
 
 -- One hypothesis ------------------------------------------------------------------------------------------------------------------------------
@@ -57,34 +57,15 @@ module _ {facts lists : List ℕ} {n : Sizes} {plain used : List ℕ} {x w : ℕ
     pub rest_judgment : {j : ℕ} → j ≡ cell 6 facts h 0 → j < 64 * length plain
     rest_judgment e = omega (arith, e, judged, g.good.room, g.long)
 
-    -- the spans
-    pub rest_lists : (general_span facts h).end ≤ length lists
-    rest_lists = omega (arith, row.inside, lists_long g.recorded)
+    -- what the readers of its entries ask
+    pub rest_entries : (footings : List ℕ) × RecallsFact facts footings lists h
+    rest_entries = (g.footings, record { S = g.S; n = n; trees = M; recorded = g.recorded; there = l })
 
-    module _ {own : Span} (e : own ≡ general_span facts h) where
-      pub general_low : own.from ≤ own.end
-      general_low = subst (λ (z : Span). z.from ≤ z.end) (sym e) (omega arith)
-
-      pub general_high : own.end ≤ length lists
-      general_high = subst (λ (z : Span). z.end ≤ length lists) (sym e) rest_lists
-
-      pub general_is : take (own.end - own.from) (drop own.from lists) ≡ (fact_of g.S h).general
-      general_is = ap (λ (z : Span). take (z.end - z.from) (drop z.from lists)) e ∙ row.general
-
-      pub rest_general : Below (64 * length used) (take (own.end - own.from) (drop own.from lists))
-      rest_general k p =
-          let q = all_at (fact_of g.S h).general k 0 row.general_below (subst (λ (xs : List ℕ). k < length xs) general_is p) in
-          subst (λ (xs : List ℕ). get_or xs k 0 < 64 * length used) (sym general_is) (omega (arith, q, g.recorded.rows.row7, g.wide))
-
-    module _ {own : Span} (e : own ≡ premises_span facts h) where
-      pub premises_low : own.from ≤ own.end
-      premises_low = subst (λ (z : Span). z.from ≤ z.end) (sym e) (omega arith)
-
-      pub premises_high : own.end ≤ length lists
-      premises_high = subst (λ (z : Span). z.end ≤ length lists) (sym e) (omega (arith, rest_lists))
-
-      pub premises_are : take (own.end - own.from) (drop own.from lists) ≡ numbers M (fact_of g.S h).premises
-      premises_are = ap (λ (z : Span). take (z.end - z.from) (drop z.from lists)) e ∙ row.premises
+    pub rest_general : {own : List ℕ} → own ≡ part lists (general_span facts h) → Below (64 * length used) own
+    rest_general {own} e k p =
+        let z = e ∙ row.general in
+        let q = all_at (fact_of g.S h).general k 0 row.general_below (subst (λ (xs : List ℕ). k < length xs) z p) in
+        subst (λ (xs : List ℕ). get_or xs k 0 < 64 * length used) (sym z) (omega (arith, q, g.recorded.rows.row7, g.wide))
 
     abbrev rule : Bool
     rule = allowed_rule g.M ihs (fact_of g.S h)
@@ -100,10 +81,10 @@ module _ {facts lists : List ℕ} {n : Sizes} {plain used : List ℕ} {x w : ℕ
     abbrev among_hyps : Bool
     among_hyps = any (λ i. same_trees i.premises (fact_of g.S h).premises && same_tree i.judgment (fact_of g.S h).judgment) ihs
 
-    module _ (r : Bool) (e : r ≡ not (eqb (cell 6 facts h 1) 0)) (f : r ≡ true) {own : Span} (z : own ≡ general_span facts h) (t : Bool)
-        (d : t ≡ all (other (holds used) x) (take (own.end - own.from) (drop own.from lists))) where
+    module _ (r : Bool) (e : r ≡ not (eqb (cell 6 facts h 1) 0)) (f : r ≡ true) {own : List ℕ} (z : own ≡ part lists (general_span facts h)) (t : Bool)
+        (d : t ≡ all (other (holds used) x) own) where
       bound_is : t ≡ all (λ v. motive_vars g.M v && not (eqb v g.M.variable)) (fact_of g.S h).general
-      bound_is = d ∙ (λ i. all (λ v. g.used_are i v && not (eqb v (sym g.variable_is i))) (general_is z i))
+      bound_is = d ∙ (λ i. all (λ v. g.used_are i v && not (eqb v (sym g.variable_is i))) ((z ∙ row.general) i))
 
       rule_is : rule ≡ t && among_hyps
       unfolding allowed_rule
@@ -112,12 +93,12 @@ module _ {facts lists : List ℕ} {n : Sizes} {plain used : List ℕ} {x w : ℕ
       pub rule_bound : t ≡ false → false ≡ rule
       rule_bound q = sym (rule_is ∙ ap (λ (b : Bool). b && among_hyps) q)
 
-      pub rule_rows : t ≡ true → {ps : Span} → ps ≡ premises_span facts h → (j : ℕ) → j ≡ cell 6 facts h 0 → (v : Bool) →
-          v ≡ row_among w many ids (take (ps.end - ps.from) (drop ps.from lists)) j → v ≡ rule
+      pub rule_rows : t ≡ true → {ps : List ℕ} → ps ≡ part lists (premises_span facts h) → (j : ℕ) → j ≡ cell 6 facts h 0 → (v : Bool) →
+          v ≡ row_among w many ids ps j → v ≡ rule
       rule_rows y {ps} u j q v o =
           let P = (fact_of g.S h).premises in
           let below : Below g.m.terms (numbers M P) = λ k p. omega (arith, all_at (numbers M P) k 0 row.numbered.below p, made_length g.I g.W g.m) in
-          o ∙ (λ i. row_among w many ids (premises_are u i) (q i))
+          o ∙ (λ i. row_among w many ids ((u ∙ row.premises) i) (q i))
           ∙ sym (rows_are g.good w (numbers M P) (cell 6 facts h 0) below judged many ids g.room g.known)
           ∙ (λ i. any (λ y. same_trees y.premises (row.numbered.trees i) && same_tree y.judgment (row.judgment.tree i)) ihs)
           ∙ sym (rule_is ∙ ap (λ (b : Bool). b && among_hyps) y)
@@ -184,12 +165,6 @@ module _ {facts lists : List ℕ} {n : Sizes} {plain used : List ℕ} {x w : ℕ
   abbrev pub asked : ℕ → Bool
   asked h = allowed_hyp g.M g.ps (hyps_in (made g.I g.W g.m) w many ids) (entry g.S.facts h)
 
-  pub hyps_low : (own : Span) → own ≡ hyps_span facts i → own.from ≤ own.end
-  hyps_low own e = let a = ap (λ (z : Span). z.from) e in let b = ap (λ (z : Span). z.end) e in omega arith
-
-  pub hyps_high : (own : Span) → own ≡ hyps_span facts i → own.end ≤ length lists
-  hyps_high own e = let b = ap (λ (z : Span). z.end) e in omega (arith, rest_lists g i l)
-
   allowing_start : Allowing asked n (fact_of g.S i).hyps (part lists (hyps_span facts i)) 0
   allowing_start =
       record { on = ap (all asked) (sym (row g i l).hyps); each = subst (All (λ h. h < n.facts)) (sym (row g i l).hyps) (row g i l).hyps_below }
@@ -199,9 +174,9 @@ abbrev pub Allows : (facts lists : List ℕ) (n : Sizes) (i : ℕ) (plain used :
 Allows facts lists n i plain used x w ids many cells k =
     (g : Resting facts lists n plain used x w ids many) (l : i < n.facts) → Allowing (asked g i l) n (fact_of g.S i).hyps cells k
 
-pub allows_start : {facts lists : List ℕ} {n : Sizes} {i : ℕ} {plain used : List ℕ} {x w : ℕ} {ids : List ℕ} {many : ℕ} (own : Span) → own ≡ hyps_span facts i →
-    Allows facts lists n i plain used x w ids many (part lists own) 0
-allows_start {lists = lists} {n} {i} own e g l = subst (λ (z : Span). Allowing (asked g i l) n (fact_of g.S i).hyps (part lists z) 0) (sym e) (allowing_start g i l)
+pub allows_start : {facts lists : List ℕ} {n : Sizes} {i : ℕ} {plain used : List ℕ} {x w : ℕ} {ids : List ℕ} {many : ℕ} {own : List ℕ} → own ≡ part lists (hyps_span facts i) →
+    Allows facts lists n i plain used x w ids many own 0
+allows_start {n = n} {i} e g l = subst (λ (cells : List ℕ). Allowing (asked g i l) n (fact_of g.S i).hyps cells 0) (sym e) (allowing_start g i l)
 
 -- Questions 34, 43 and 44 -------------------------------------------------------------------------------------------------------------------------
 
@@ -218,8 +193,8 @@ module _ {facts lists : List ℕ} {n : Sizes} {plain used : List ℕ} {x w : ℕ
   abbrev given : Out Made (Unit {0})
   given = case_fact g.S g.M g.ps (hyps_in T w many ids) i (tree g.I g.W g.m j) T
 
-  pub fact_missing : (r : Bool) → r ≡ ltb i n.facts → r ≡ false → given ≡ question 34 T
-  unfolding case_fact question fact_at then
+  pub fact_missing : (r : Bool) → r ≡ ltb i n.facts → r ≡ false → given ≡ refuse 34 0 T
+  unfolding case_fact fact_at then
   fact_missing r e f =
       ap (λ (o : Option Fact). then (found 34 o T) (λ f U. then (ask 43 (same_tree f.judgment (tree g.I g.W g.m j)) U)
       (λ z N. ask 44 (all (λ h. allowed_hyp g.M g.ps (hyps_in T w many ids) (entry g.S.facts h)) f.hyps) N)))
@@ -239,8 +214,8 @@ module _ {facts lists : List ℕ} {n : Sizes} {plain used : List ℕ} {x w : ℕ
         (λ z N. ask 44 (all (λ h. allowed_hyp g.M g.ps (hyps_in T w many ids) (entry g.S.facts h)) f.hyps) N))) (row g i l).is
         ∙ ap (λ (b : Bool). then (ask 43 b T) (λ z N. ask 44 (all (asked g i l) (fact_of g.S i).hyps) N)) same
 
-    pub fact_other : (k : ℕ) → k ≡ cell 6 facts i 0 → (k ≡ j → ⊥) → given ≡ question 43 T
-    unfolding question then
+    pub fact_other : (k : ℕ) → k ≡ cell 6 facts i 0 → (k ≡ j → ⊥) → given ≡ refuse 43 0 T
+    unfolding then
     fact_other k e q =
         found_here
         ∙ ap (λ (b : Bool). then (ask 43 b T) (λ z N. ask 44 (all (asked g i l) (fact_of g.S i).hyps) N)) (ne_eqb (cell 6 facts i 0) j (λ z. q (e ∙ z)))
@@ -253,10 +228,8 @@ module _ {facts lists : List ℕ} {n : Sizes} {plain used : List ℕ} {x w : ℕ
           ∙ ap (λ (b : Bool). then (ask 43 b T) (λ z N. ask 44 (all (asked g i l) (fact_of g.S i).hyps) N)) (eq-eqb (cell 6 facts i 0) j (sym e ∙ q))
           ∙ ap (λ (b : Bool). ask 44 b T) (sym a)
 
-      pub fact_rests_not : r ≡ false → given ≡ question 44 T
-      unfolding question
+      pub fact_rests_not : r ≡ false → given ≡ refuse 44 0 T
       fact_rests_not f = last_question ∙ ap (λ (b : Bool). ask 44 b T) f
 
-      pub fact_rests : r ≡ true → given ≡ question 0 T
-      unfolding question
+      pub fact_rests : r ≡ true → given ≡ ok tt T
       fact_rests f = last_question ∙ ap (λ (b : Bool). ask 44 b T) f

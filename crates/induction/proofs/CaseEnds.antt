@@ -8,8 +8,8 @@ use lib.Dec.{eqb}
 use borrow.Author.Tests.{eq-eqb, ne_eqb}
 use lib.ListN.{length, take, drop, replicate, length-drop, length-replicate, length-append}
 use lib.Seq.{take_at, length-take-le}
-use Rattle.rules.specs.Limits.{VARIABLES, TERMWORDS}
-use Rattle.rules.specs.Out.{ok, refuse, then}
+use Rattle.rules.specs.Limits.{TERMS, TERMWORDS}
+use Rattle.rules.specs.Out.{Out, then}
 use Rattle.rules.specs.Find.{Set, has, union}
 use Rattle.rules.specs.Tree.{Tree, Trees, among}
 use Rattle.rules.specs.Store.{Made}
@@ -18,15 +18,16 @@ use Rattle.rules.specs.Induct.{Motive, hypotheses}
 use Rattle.terms.specs.declared.store.Mark.{Mark}
 use Rattle.terms.specs.Table.{made, tree, args_of}
 use Rattle.terms.specs.Sets.{holds}
-use Rattle.terms.specs.On.{Went, Stopped, On, on_start, on_is, on_ok, on_no, on_done, on_refused}
+use Rattle.terms.specs.On.{Stopped, On, on_start, on_is, on_ok, on_no, on_done, on_refused}
 use Rattle.terms.specs.Laws.Growth.{grown_tree, grown_args, grown_there, grown_trans}
 use Rattle.terms.specs.Laws.Sets.{holds_zero}
 use Rattle.state.specs.declared.sizes.Sizes.{Sizes}
 use Rattle.state.specs.Growth.{recorded_on}
-use Rattle.reading.specs.declared.apart.Out.{Out as Answer}
-use Rattle.reading.specs.declared.apart.Out.TheVariants.{Ok, No}
-use Rattle.induction.specs.Inducing.{Roomy, Below, motive_in, Motived, Moved, MovedAs, Casing, at_constructor, Scratch, hyps_in, HypsMade, HypsMadeAs, BeforeRest, case_fact, question, case_terms, InCase}
-use Rattle.induction.proofs.Moves.{below_grown}
+use Rattle.std.specs.Prelude.{Result, Ok, Err}
+use Rattle.questions.specs.declared.Question.{Question}
+use Rattle.referring.specs.Substitutes.{Below}
+use Rattle.referring.specs.Laws.Substitutes.{below_grown}
+use Rattle.induction.specs.Inducing.{Roomy, PassedBy, motive_in, Moved, Casing, at_constructor, hyps_in, HypsMade, BeforeRest, case_fact, asked, case_terms, InCase}
 use Rattle.induction.proofs.Inducts.{among_has}
 use Rattle.referring.specs.Laws.Sounds.{grown_grows}
 
@@ -40,120 +41,92 @@ unfolding is_none args_of
 none_cells M [] = sym (eq-eqb 0 0 refl)
 none_cells M (x ∷ xs) = sym (ne_eqb (suc (length xs)) 0 (λ e. omega arith))
 
--- a question, or none
-pub question_some : (q : ℕ) (U : Made) → (q ≡ 0 → ⊥) → question q U ≡ refuse q 0 U
-unfolding question
-question_some zero U n = absurd (n refl)
-question_some (suc q) U n = refl
+-- the last questions are the answer
+passed : {I W J X : List ℕ} {old now : Mark} {K L : Out Made (Unit {0})} (r : Result (Unit {0}) Question) → On I W old K J X now L → L ≡ asked r (made J X now) →
+    PassedBy I W J X old now K r
+passed (Ok t) o e = on_done (on_is o e)
+passed (Err q) o e = on_refused (on_is o e)
 
-pub question_none : (q : ℕ) (U : Made) → q ≡ 0 → question q U ≡ ok tt U
-unfolding question
-question_none q U e = ap (λ (k : ℕ). question k U) e
+module _ {facts lists : List ℕ} {n : Sizes} {I W : List ℕ} {m : Mark} {x sort j : ℕ} {premises used : List ℕ} {c : ℕ} {own memo : List ℕ} (sorts ids : List ℕ)
+    (g : InCase facts lists n I W m x sort j premises used) (k : Casing I W m c own × (length sorts ≡ length own))
+    (s : (memo ≡ replicate TERMS 0) × Roomy (length premises) ids) where
+  pub end_width : length premises ≤ length ids
+  end_width = omega (arith, g.motived.few, s.1)
 
-module _ {facts lists : List ℕ} {n : Sizes} {I W : List ℕ} {m : Mark} {x sort j : ℕ} {premises used : List ℕ} {c : ℕ} {own map memo : List ℕ} (sorts ids : List ℕ)
-    (g : InCase facts lists n I W m x sort j premises used × Casing I W m c own × (length sorts ≡ length own)) (s : Scratch map memo × Roomy (length premises) ids) where
-  pub end_width : (length premises) ≤ length ids
-  end_width = omega (arith, g.0.motived.few, s.1)
-
-  pub end_count : (length premises) ≡ length (take (length premises) ids)
+  pub end_count : length premises ≡ length (take (length premises) ids)
   end_count = sym (length-take-le (length premises) ids end_width)
 
-  pub end_asks : (Casing I W m c own × Motived I W m x j premises) × (Scratch map memo × (length (take (length premises) ids) ≡ (length premises)))
-  end_asks = ((g.1, g.0.motived), (s.0, sym end_count))
-
   -- the cells of the premises at the constructor are back
-  module _ (J X last : List ℕ) (long : length last ≡ length (take (length premises) ids)) where
-    last_long : length last ≡ (length premises)
+  module _ (J X last : List ℕ) (new : Mark) (long : length last ≡ length (take (length premises) ids)) where
+    last_long : length last ≡ length premises
     last_long = long ∙ sym end_count
 
-    pub back_front : take (length premises) (last ++ drop (length premises) ids) ≡ last
+    back_front : take (length premises) (last ++ drop (length premises) ids) ≡ last
     back_front = take_at last (drop (length premises) ids) (length premises) last_long
 
     pub back_long : length (last ++ drop (length premises) ids) ≡ length ids
     back_long = omega (arith, length-append last (drop (length premises) ids), length-drop (length premises) ids, last_long, end_width)
 
-    pub back_count : (length premises) ≡ length (take (length premises) (last ++ drop (length premises) ids))
+    pub back_count : length premises ≡ length (take (length premises) (last ++ drop (length premises) ids))
     back_count = sym (ap length back_front ∙ last_long)
 
-    module _ (r : Answer) (a : (sort : ℕ) → MovedAs I W J X m (at_constructor (motive_in (made I W m) x sort j premises) c own (made I W m)) last r) where
-      pub end_stopped : {q d : ℕ} {new : Mark} → r ≡ No q d new → (h : InCase facts lists n I W m x sort j premises used) (i : ℕ) →
-          Stopped I W J X m (case_terms h.S (motive_in (made I W m) x sort j premises) i c own sorts (made I W m)) q d new
+    pub end_stopped : {q d : ℕ} → Stopped I W J X m (at_constructor (motive_in (made I W m) x sort j premises) c own (made I W m)) q d new →
+        (h : InCase facts lists n I W m x sort j premises used) (i : ℕ) →
+        Stopped I W J X m (case_terms h.S (motive_in (made I W m) x sort j premises) i c own sorts (made I W m)) q d new
+    unfolding case_terms
+    end_stopped e h i = on_no _ (on_start h.motived.good) e
+
+    module _ {t : ℕ} (moved : Moved I W J X m (at_constructor (motive_in (made I W m) x sort j premises) c own (made I W m)) last t new) where
+      pub end_insert : Below (64 * length {A = ℕ} (replicate TERMWORDS 0)) (take (length premises) (last ++ drop (length premises) ids))
+      end_insert =
+          subst (Below (64 * length {A = ℕ} (replicate TERMWORDS 0))) (sym back_front)
+          (below_grown last (omega (arith, moved.went.grown.good.room, length-replicate {A = ℕ} TERMWORDS 0)) moved.known)
+
+      motive_same : motive_in (made J X new) x sort j premises ≡ motive_in (made I W m) x sort j premises
+      motive_same =
+          λ i. record {
+            variable = x;
+            sort = sort;
+            judgment = grown_tree moved.went.grown j g.motived.there i;
+            premises = grown_args moved.went.grown premises g.motived.known i;
+          }
+
+      -- the hypotheses come next
+      next : (h : InCase facts lists n I W m x sort j premises used) (i : ℕ) →
+          On I W m (case_terms h.S (motive_in (made I W m) x sort j premises) i c own sorts (made I W m)) J X new
+          (then (hypotheses (motive_in (made J X new) x sort j premises) own sorts (made J X new))
+          (λ ihs U. case_fact h.S (motive_in (made I W m) x sort j premises) (args_of (made J X new) last) ihs i (tree J X new t) U))
       unfolding case_terms
-      end_stopped e h i =
-          on_no _ (on_start h.motived.good)
-          (subst (MovedAs I W J X m (at_constructor (motive_in (made I W m) x sort j premises) c own (made I W m)) last) e (a sort))
+      next h i =
+          on_is (on_ok _ (on_start h.motived.good) moved.went)
+          (ap (λ (M : Motive). then (hypotheses M own sorts (made J X new))
+          (λ ihs U. case_fact h.S (motive_in (made I W m) x sort j premises) (args_of (made J X new) last) ihs i (tree J X new t) U)) (sym motive_same))
 
-      module _ {t : ℕ} {new : Mark} (e : r ≡ Ok t new) where
-        pub moved : Moved I W J X m (at_constructor (motive_in (made I W m) x sort j premises) c own (made I W m)) last t new
-        moved = subst (MovedAs I W J X m (at_constructor (motive_in (made I W m) x sort j premises) c own (made I W m)) last) e (a sort)
+      module _ (Y Z ids' : List ℕ) (end : Mark) where
+        pub end_unsupposed : {q d : ℕ} → Stopped J X Y Z new (hypotheses (motive_in (made J X new) x sort j premises) own sorts (made J X new)) q d end →
+            (h : InCase facts lists n I W m x sort j premises used) (i : ℕ) →
+            Stopped I W Y Z m (case_terms h.S (motive_in (made I W m) x sort j premises) i c own sorts (made I W m)) q d end
+        end_unsupposed f h i = on_no _ (next h i) f
 
-        pub end_insert : Below (64 * length {A = ℕ} (replicate TERMWORDS 0)) (take (length premises) (last ++ drop (length premises) ids))
-        end_insert =
-            subst (Below (64 * length {A = ℕ} (replicate TERMWORDS 0))) (sym back_front)
-            (below_grown last (omega (arith, moved.went.grown.good.room, length-replicate {A = ℕ} TERMWORDS 0)) moved.known)
+        module _ {many : ℕ}
+            (supposed : HypsMade J X Y Z new (hypotheses (motive_in (made J X new) x sort j premises) own sorts (made J X new)) (length premises) (length own) ids' many end) where
+          pub plain_right : (plain : List ℕ) → holds plain ≡ union (holds (replicate TERMWORDS 0)) (has (take (length premises) (last ++ drop (length premises) ids))) → (t : ℕ) → t < end.terms →
+              holds plain t ≡ among (args_of (made J X new) last) (tree Y Z end t)
+          plain_right plain q t l =
+              let b : Below end.terms last = below_grown last supposed.went.grown.more moved.known in
+              ap (λ (p : Set). p t) (q ∙ (λ i. union (holds_zero TERMWORDS i) (has (back_front i))))
+              ∙ sym (among_has supposed.went.grown.good last b t l)
+              ∙ ap (λ (ts : Trees). among ts (tree Y Z end t)) (grown_args supposed.went.grown last moved.known)
 
-        pub end_suppose : {map' memo' : List ℕ} → (map' ≡ map) × (memo' ≡ memo) →
-            (Motived J X new x j premises × Scratch map' memo')
-            × (Below VARIABLES own × (length sorts ≡ length own) × (length own * suc (length premises) ≤ length (last ++ drop (length premises) ids)))
-        end_suppose b = (
-          (
-            record {
-              good = moved.went.grown.good;
-              small = g.0.motived.small;
-              there = grown_there moved.went.grown j g.0.motived.there;
-              known = below_grown premises moved.went.grown.more g.0.motived.known;
-              few = g.0.motived.few;
-            },
-            record { map_zero = b.0 ∙ s.0.map_zero; memo_zero = b.1 ∙ s.0.memo_zero },
-          ),
-          (g.1.small, g.2, omega (arith, mul_mono (length own) 16 (suc (length premises)) g.1.narrow, g.0.motived.few, back_long, s.1)),
-        )
+          pub end_rows : length ids' ≡ length (last ++ drop (length premises) ids) → many * suc (length premises) ≤ length ids'
+          end_rows y = omega (arith, mul_mono many 16 (suc (length premises)) (omega (arith, supposed.few, k.0.narrow)), g.motived.few, y, back_long, s.1)
 
-        motive_same : motive_in (made J X new) x sort j premises ≡ motive_in (made I W m) x sort j premises
-        motive_same =
-            λ i. record {
-              variable = x;
-              sort = sort;
-              judgment = grown_tree moved.went.grown j g.0.motived.there i;
-              premises = grown_args moved.went.grown premises g.0.motived.known i;
-            }
-
-        -- the hypotheses come next
-        next : (h : InCase facts lists n I W m x sort j premises used) (i : ℕ) →
-            On I W m (case_terms h.S (motive_in (made I W m) x sort j premises) i c own sorts (made I W m)) J X new
-            (then (hypotheses (motive_in (made J X new) x sort j premises) own sorts (made J X new))
-            (λ ihs U. case_fact h.S (motive_in (made I W m) x sort j premises) (args_of (made J X new) last) ihs i (tree J X new t) U))
-        unfolding case_terms
-        next h i =
-            on_is (on_ok _ (on_start h.motived.good) moved.went)
-            (ap (λ (M : Motive). then (hypotheses M own sorts (made J X new))
-            (λ ihs U. case_fact h.S (motive_in (made I W m) x sort j premises) (args_of (made J X new) last) ihs i (tree J X new t) U)) (sym motive_same))
-
-        module _ (Y Z ids' : List ℕ) (o : Answer)
-            (b : HypsMadeAs J X Y Z new (hypotheses (motive_in (made J X new) x sort j premises) own sorts (made J X new)) (length premises) (length own) ids' o) where
-          pub end_unsupposed : {q d : ℕ} {end : Mark} → o ≡ No q d end → (h : InCase facts lists n I W m x sort j premises used) (i : ℕ) →
-              Stopped I W Y Z m (case_terms h.S (motive_in (made I W m) x sort j premises) i c own sorts (made I W m)) q d end
-          end_unsupposed f h i =
-              on_no _ (next h i)
-              (subst (HypsMadeAs J X Y Z new (hypotheses (motive_in (made J X new) x sort j premises) own sorts (made J X new)) (length premises) (length own) ids') f b)
-
-          module _ {many : ℕ} {end : Mark} (f : o ≡ Ok many end) where
-            pub supposed : HypsMade J X Y Z new (hypotheses (motive_in (made J X new) x sort j premises) own sorts (made J X new)) (length premises) (length own) ids' many end
-            supposed = subst (HypsMadeAs J X Y Z new (hypotheses (motive_in (made J X new) x sort j premises) own sorts (made J X new)) (length premises) (length own) ids') f b
-
-            pub plain_right : (plain : List ℕ) → holds plain ≡ union (holds (replicate TERMWORDS 0)) (has (take (length premises) (last ++ drop (length premises) ids))) → (t : ℕ) → t < end.terms →
-                holds plain t ≡ among (args_of (made J X new) last) (tree Y Z end t)
-            plain_right plain q t l =
-                let k : Below end.terms last = below_grown last supposed.went.grown.more moved.known in
-                ap (λ (p : Set). p t) (q ∙ (λ i. union (holds_zero TERMWORDS i) (has (back_front i))))
-                ∙ sym (among_has supposed.went.grown.good last k t l)
-                ∙ ap (λ (ts : Trees). among ts (tree Y Z end t)) (grown_args supposed.went.grown last moved.known)
-
+          module _ (plain : List ℕ) (z : length plain ≡ length {A = ℕ} (replicate TERMWORDS 0))
+              (q : holds plain ≡ union (holds (replicate TERMWORDS 0)) (has (take (length premises) (last ++ drop (length premises) ids))))
+              (y : length ids' ≡ length (last ++ drop (length premises) ids)) where
             -- what the questions of the fact are given
-            abbrev pub resting : (plain : List ℕ) → InCase facts lists n I W m x sort j premises used → length plain ≡ length {A = ℕ} (replicate TERMWORDS 0) →
-                holds plain ≡ union (holds (replicate TERMWORDS 0)) (has (take (length premises) (last ++ drop (length premises) ids))) → length ids' ≡ length (last ++ drop (length premises) ids) →
-                BeforeRest facts lists n plain used x (length premises) ids' many t
-            resting plain h z q y =
+            abbrev pub resting : InCase facts lists n I W m x sort j premises used → BeforeRest facts lists n plain used x (length premises) ids' many t
+            resting h =
                 record {
                   S = h.S;
                   footings = h.footings;
@@ -170,7 +143,8 @@ module _ {facts lists : List ℕ} {n : Sizes} {I W : List ℕ} {m : Mark} {x sor
                   wide = h.wide;
                   plain_are = plain_right plain q;
                   long = z ∙ length-replicate {A = ℕ} TERMWORDS 0;
-                  room = omega (arith, mul_mono many 16 (suc (length premises)) (omega (arith, supposed.few, g.1.narrow)), h.motived.few, y, back_long, s.1);
+                  narrow = h.motived.few;
+                  room = end_rows y;
                   known = supposed.known;
                   there = grown_there supposed.went.grown t moved.there;
                 }
@@ -183,11 +157,8 @@ module _ {facts lists : List ℕ} {n : Sizes} {I W : List ℕ} {m : Mark} {x sor
                 (ap (λ (u : Tree). case_fact h.S (motive_in (made I W m) x sort j premises) (args_of (made J X new) last) (hyps_in (made Y Z end) (length premises) many ids') i u (made Y Z end))
                 (sym (grown_tree supposed.went.grown t moved.there)))
 
-            module _ (h : InCase facts lists n I W m x sort j premises used) (i q : ℕ)
-                (u : case_fact h.S (motive_in (made I W m) x sort j premises) (args_of (made J X new) last) (hyps_in (made Y Z end) (length premises) many ids') i (tree Y Z end t) (made Y Z end)
-                ≡ question q (made Y Z end)) where
-              pub end_refused : (q ≡ 0 → ⊥) → Stopped I W Y Z m (case_terms h.S (motive_in (made I W m) x sort j premises) i c own sorts (made I W m)) q 0 end
-              end_refused z = on_refused (on_is (last_step h i) (u ∙ question_some q (made Y Z end) z))
-
-              pub end_passed : q ≡ 0 → Went I W Y Z m (case_terms h.S (motive_in (made I W m) x sort j premises) i c own sorts (made I W m)) tt end
-              end_passed z = on_done (on_is (last_step h i) (u ∙ question_none q (made Y Z end) z))
+            pub end_passed : (h : InCase facts lists n I W m x sort j premises used) (i : ℕ) (r : Result (Unit {0}) Question) →
+                ((b : BeforeRest facts lists n plain used x (length premises) ids' many t) →
+                case_fact b.S b.M b.ps (hyps_in (made b.I b.W b.m) (length premises) many ids') i (tree b.I b.W b.m t) (made b.I b.W b.m) ≡ asked r (made b.I b.W b.m)) →
+                PassedBy I W Y Z m end (case_terms h.S (motive_in (made I W m) x sort j premises) i c own sorts (made I W m)) r
+            end_passed h i r u = passed r (last_step h i) (u (resting h))

@@ -3,21 +3,22 @@ use mathlib.Core.Path.{◌≡◌, refl, sym, ap, ◌∙◌, subst}
 use mathlib.Core.Bool.{Bool, true, false}
 use Rattle.std.specs.Prelude.{Some as some, None as nothing, Option}
 use mathlib.Core.List.{List, [], ◌∷◌}
-use Prim.Native.Nat.{ℕ, ◌+◌, ◌-◌, ◌*◌, ◌<◌, ◌≤◌}
+use Prim.Native.Nat.{ℕ, ◌+◌, ◌<◌, ◌≤◌}
 use native.Mathlib.Omega.{arith}
 use lib.Dec.{eqb}
-use lib.ListN.{length, take, drop, length-drop}
+use lib.ListN.{length, drop, length-drop}
 use borrow.Author.Tests.{eq-eqb, ne_eqb}
-use Rattle.rules.specs.Limits.{SYMBOLS, VARIABLES, VARIABLEWORDS}
-use Rattle.rules.specs.Out.{then, ask}
+use Rattle.rules.specs.Limits.{SYMBOLS, VARIABLEWORDS}
+use Rattle.rules.specs.Out.{Out, refuse, then, ask}
 use Rattle.rules.specs.Sexp.{Sexps, cons, count}
 use Rattle.rules.specs.Find.{every}
 use Rattle.rules.specs.Theory.{Theory, Symbol, no_symbol, constructors}
-use Rattle.rules.specs.State.{State, sort_of_var}
+use Rattle.rules.specs.Store.{Made}
+use Rattle.rules.specs.State.{State}
 use Rattle.rules.specs.Induct.{Motive, motive_vars, induct_case, induct_cases}
 use Rattle.rules.specs.Laws.Find.{first_some}
 use Rattle.sexp.specs.Encode.{encodes}
-use Rattle.sexp.specs.Items.{Items, item_at, behind}
+use Rattle.sexp.specs.Items.{Holds, Items}
 use Rattle.sexp.specs.ItemLaws.{More}
 use Rattle.sexp.specs.WalkLaws.{Walk, walk_start, walk_more, walk_over, walk_rest}
 use Rattle.sexp.specs.FoundLaws.{found_at, found_missing}
@@ -28,18 +29,18 @@ use Rattle.kernel.specs.Listing.{next_constructor, with_rest, every_first}
 use Rattle.terms.specs.declared.store.Mark.{Mark}
 use Rattle.terms.specs.Table.{made, Grown}
 use Rattle.terms.specs.Sets.{holds}
-use Rattle.terms.specs.On.{Went, Stopped, On, on_start, on_is, on_ok, on_no, on_done, on_ask_yes, on_ask_no}
+use Rattle.terms.specs.On.{Went, Stopped, On, on_start, on_is, on_ok, on_no, on_stop, on_went, on_stopped, on_done, on_ask_yes, on_ask_no}
 use Rattle.terms.specs.Laws.Growth.{grown_tree, grown_args, grown_there}
 use Rattle.state.specs.declared.sizes.Sizes.{Sizes}
-use Rattle.state.specs.Rows.{cell}
-use Rattle.state.specs.VarLaws.{vars_long, var_sort_is}
-use Rattle.reading.specs.declared.apart.Out.{Out as Answer}
-use Rattle.reading.specs.declared.apart.Out.TheVariants.{Ok, No}
+use Rattle.state.specs.Held.{Names}
 use Rattle.referring.specs.Laws.Refers.{refers_on}
-use Rattle.induction.specs.Inducing.{Roomy, PassedAs, motive_in, Motived, Scratch, CaseItem, CaseItems, on_motive, MotiveItems}
-use Rattle.induction.proofs.Moves.{below_grown}
-use Rattle.induction.proofs.CaseNames.{walk_behind, walk_further}
-use Rattle.induction.proofs.CaseReads.{passed_on}
+use Rattle.std.specs.Prelude.{Result, Ok, Err}
+use Rattle.questions.specs.declared.Question.{Question}
+use Rattle.sexp.specs.Each.{Here}
+use Rattle.sexp.specs.declared.items.Each.{Each}
+use Rattle.referring.specs.Laws.Substitutes.{below_grown}
+use Rattle.induction.specs.Inducing.{PassedBy, motive_in, Motived, Casing, case_terms, InCase, CaseItem, CaseRead, CaseItems, on_motive, MotiveItems}
+use Rattle.induction.proofs.CaseNames.{walk_behind}
 use Rattle.referring.specs.Laws.Sounds.{grown_grows}
 
 -- The constructors from a number on --------------------------------------------------------------------------------------------------------
@@ -65,6 +66,12 @@ next_inside T s from c e =
     let f = first_some (λ (c : Symbol). eqb c.output s) (drop from T.symbols) from c no_symbol e in
     omega (arith, f.is, f.inside, length-drop from T.symbols)
 
+-- what an answer says behind what went before
+passed_on : {I W J X : List ℕ} {old now : Mark} {K L : Out Made (Unit {0})} (Y Z : List ℕ) (new : Mark) (r : Result (Unit {0}) Question) → On I W old K J X now L →
+    PassedBy J X Y Z now new L r → PassedBy I W Y Z old new K r
+passed_on Y Z new (Ok t) o w = on_went o w
+passed_on Y Z new (Err q) o s = on_stopped o s
+
 -- The loop --------------------------------------------------------------------------------------------------------------------------------
 
 -- a motive in tables that have grown
@@ -77,193 +84,178 @@ module _ {I W J X : List ℕ} {old now : Mark} {x j : ℕ} {premises : List ℕ}
   motived_on =
       record { good = w.good; small = g.small; there = grown_there w j g.there; known = below_grown premises w.more g.known; few = g.few }
 
-pub record CasesLeft (S : State) (xs : Sexps) (text : List ℕ) (I W : List ℕ) (old : Mark) (x sort j : ℕ) (premises cells map₀ memo₀ ids₀ J X map memo ids : List ℕ) (now : Mark) (from at : ℕ) : Type 0 where
+pub record CasesLeft (S : State) (xs : Sexps) (text I W : List ℕ) (old : Mark) (x sort j : ℕ) (premises cells J X : List ℕ) (now : Mark) (from at : ℕ) : Type 0 where
   pub zs : Sexps
   pub walk : Walk text cells at zs
   pub on : On I W old (induct_cases S (motive_in (made I W old) x sort j premises) xs (constructors S.theory sort) (made I W old)) J X now
       (induct_cases S (motive_in (made I W old) x sort j premises) zs (onward S.theory sort from) (made J X now))
-  pub long : length ids ≡ length ids₀
-  pub map_same : map ≡ map₀
-  pub memo_same : memo ≡ memo₀
 
-abbrev pub CasesOf : (goals text symbols ins vars facts lists : List ℕ) (n : Sizes) (I W : List ℕ) (old : Mark) (x sort j : ℕ) (premises used cells map₀ memo₀ ids₀ J X map memo ids : List ℕ)
-    (now : Mark) (from at : ℕ) → Type 0
-CasesOf goals text symbols ins vars facts lists n I W old x sort j premises used cells map₀ memo₀ ids₀ J X map memo ids now from at =
-    (g : CaseItems goals text symbols ins vars facts lists n I W old x sort j premises used cells) →
-    CasesLeft g.S g.xs text I W old x sort j premises cells map₀ memo₀ ids₀ J X map memo ids now from at
+abbrev pub CasesOf : (K : Names) (facts footings lists : List ℕ) (n : Sizes) (I W : List ℕ) (old : Mark) (x sort j : ℕ) (premises used cells J X : List ℕ) (now : Mark) (from at : ℕ) → Type 0
+CasesOf K facts footings lists n I W old x sort j premises used cells J X now from at =
+    (g : CaseItems K facts footings lists n I W old x sort j premises used cells) → CasesLeft g.S g.xs K.text I W old x sort j premises cells J X now from at
 
-pub cases_start : {goals text symbols ins vars facts lists : List ℕ} {n : Sizes} {I W : List ℕ} {m : Mark} {x sort j : ℕ} {premises used cells map memo ids : List ℕ} →
-    CasesOf goals text symbols ins vars facts lists n I W m x sort j premises used cells map memo ids I W map memo ids m 0 0
-cases_start {I = I} {W} {m} {x} {sort} {j} {premises} g =
-    record {
-      zs = g.xs;
-      walk = walk_start g.items;
-      on = on_is (on_start g.motived.good)
-          (ap (λ (cs : List ℕ). induct_cases g.S (motive_in (made I W m) x sort j premises) g.xs cs (made I W m)) (onward_all g.S.theory sort));
-      long = refl;
-      map_same = refl;
-      memo_same = refl;
-    }
+module _ {K : Names} {facts footings lists : List ℕ} {n : Sizes} {I W : List ℕ} {old : Mark} {x sort j : ℕ} {premises used cells : List ℕ} where
+  pub cases_start : CasesOf K facts footings lists n I W old x sort j premises used cells I W old 0 0
+  cases_start g =
+      record {
+        zs = g.xs;
+        walk = walk_start g.items;
+        on = on_is (on_start g.motived.good)
+            (ap (λ (cs : List ℕ). induct_cases g.S (motive_in (made I W old) x sort j premises) g.xs cs (made I W old)) (onward_all g.S.theory sort));
+      }
 
-module _ {goals text symbols ins vars facts lists : List ℕ} {n : Sizes} {I W : List ℕ} {old : Mark} {x sort j : ℕ} {premises used cells map₀ memo₀ ids₀ J X map memo ids : List ℕ}
-    {now : Mark} {from at : ℕ} (g : CaseItems goals text symbols ins vars facts lists n I W old x sort j premises used cells)
-    (h : CasesLeft g.S g.xs text I W old x sort j premises cells map₀ memo₀ ids₀ J X map memo ids now from at) where
-  pub cases_done : length cells ≤ at → Went I W J X old (induct_cases g.S (motive_in (made I W old) x sort j premises) g.xs (constructors g.S.theory sort) (made I W old)) tt now
-  unfolding induct_cases
-  cases_done l =
-      on_done (on_is h.on
-      (ap (λ (zs : Sexps). induct_cases g.S (motive_in (made I W old) x sort j premises) zs (onward g.S.theory sort from) (made J X now)) (walk_over h.walk l)))
+  module _ {J X : List ℕ} {now : Mark} {from at : ℕ} (g : CaseItems K facts footings lists n I W old x sort j premises used cells)
+      (h : CasesLeft g.S g.xs K.text I W old x sort j premises cells J X now from at) where
+    abbrev whole : Out Made (Unit {0})
+    whole = induct_cases g.S (motive_in (made I W old) x sort j premises) g.xs (constructors g.S.theory sort) (made I W old)
 
-  pub cases_counted : CountedSymbols symbols n.symbols
-  cases_counted = (g.theory, (ins, (g.S.theory.symbols, g.refers.reads.spelling.held)))
+    pub cases_done : length cells ≤ at → Went I W J X old whole tt now
+    unfolding induct_cases
+    cases_done l =
+        on_done (on_is h.on
+        (ap (λ (zs : Sexps). induct_cases g.S (motive_in (made I W old) x sort j premises) zs (onward g.S.theory sort from) (made J X now)) (walk_over h.walk l)))
 
-  module _ (l : at < length cells) where
-    pub one : More h.zs
-    one = walk_more h.walk l
+    pub cases_counted : CountedSymbols K.symbols n.symbols
+    cases_counted = (K.theory, (K.inputs, (g.S.theory.symbols, g.refers.reads.spelling.held)))
 
-    pub here : Walk text cells at (cons one.first one.others)
-    here = subst (λ (z : Sexps). Walk text cells at z) one.is h.walk
+    module _ {part : List ℕ} {next : Each} (w : Here cells part at next) where
+      pub one : More h.zs
+      one = walk_more h.walk w.inside
 
-    pub cases_less : {next : ℕ} → next ≡ behind at (item_at cells at) → at < next
-    cases_less e = walk_further here e
+      pub here : Walk K.text cells at (cons one.first one.others)
+      here = subst (λ (z : Sexps). Walk K.text cells at z) one.is h.walk
 
-    module _ {r : Option ℕ} (a : (T : Theory) (text ins : List ℕ) → SymbolsHeld text symbols ins n.symbols T.symbols → r ≡ (next_constructor T sort from)) where
-      told : r ≡ (next_constructor g.S.theory sort from)
-      told = a g.S.theory g.theory ins g.refers.reads.spelling.held
+      module _ {r : Option ℕ} (a : (T : Theory) (text ins : List ℕ) → SymbolsHeld text K.symbols ins n.symbols T.symbols → r ≡ (next_constructor T sort from)) where
+        told : r ≡ (next_constructor g.S.theory sort from)
+        told = a g.S.theory K.theory K.inputs g.refers.reads.spelling.held
 
-      pub cases_over : r ≡ nothing →
-          Went I W J X old (induct_cases g.S (motive_in (made I W old) x sort j premises) g.xs (constructors g.S.theory sort) (made I W old)) tt now
-      unfolding induct_cases
-      cases_over e =
-          on_done (on_is h.on
-          (λ i. induct_cases g.S (motive_in (made I W old) x sort j premises) (one.is i)
-          (onward_none g.S.theory sort from (found_missing (next_constructor g.S.theory sort from) r told e) i) (made J X now)))
-
-      module _ {c : ℕ} (e : r ≡ some c) where
-        found : next_constructor g.S.theory sort from ≡ some c
-        found = found_at (next_constructor g.S.theory sort from) r c told e
-
-        pub cases_known : c < n.symbols
-        cases_known = omega (arith, next_inside g.S.theory sort from c found, g.refers.reads.spelling.held.many)
-
-        pub cases_small : c < SYMBOLS
-        cases_small = omega (arith, cases_known, symbols_few g.refers.reads.spelling.held)
-
-        abbrev pub cases_given : CaseItem goals text symbols ins vars facts lists n J X now x sort j premises used (take (length cells - at) (drop at cells))
-        cases_given =
-            record {
-              S = g.S;
-              theory = g.theory;
-              defs = g.defs;
-              footings = g.footings;
-              y = one.first;
-              ys = one.others;
-              refers = refers_on g.refers (grown_grows h.on.grown) h.on.grown.good;
-              motived = motived_on h.on.grown g.motived;
-              used_are = g.used_are ∙ ap motive_vars (sym (motive_on sort h.on.grown g.motived));
-              wide = g.wide;
-              items = walk_rest here;
-            }
-
-        pub cases_scratch : Scratch map₀ memo₀ × Roomy (length premises) ids₀ → Scratch map memo × Roomy (length premises) ids
-        cases_scratch s =
-            (record { map_zero = h.map_same ∙ s.0.map_zero; memo_zero = h.memo_same ∙ s.0.memo_zero }, omega (arith, h.long, s.1))
-
-        split : On I W old (induct_cases g.S (motive_in (made I W old) x sort j premises) g.xs (constructors g.S.theory sort) (made I W old)) J X now
-            (then (induct_case g.S (motive_in (made J X now) x sort j premises) one.first c (made J X now))
-            (λ z U. induct_cases g.S (motive_in (made I W old) x sort j premises) one.others (onward g.S.theory sort (c + 1)) U))
+        pub cases_over : r ≡ nothing → Went I W J X old whole tt now
         unfolding induct_cases
-        split =
-            on_is h.on
-            ((λ i. induct_cases g.S (motive_in (made I W old) x sort j premises) (one.is i) (onward_some g.S.theory sort from c found i) (made J X now))
-            ∙ ap (λ (M : Motive). then (induct_case g.S M one.first c (made J X now))
-            (λ z U. induct_cases g.S (motive_in (made I W old) x sort j premises) one.others (onward g.S.theory sort (c + 1)) U))
-            (sym (motive_on sort h.on.grown g.motived)))
+        cases_over e =
+            on_done (on_is h.on
+            (λ i. induct_cases g.S (motive_in (made I W old) x sort j premises) (one.is i)
+            (onward_none g.S.theory sort from (found_missing (next_constructor g.S.theory sort from) r told e) i) (made J X now)))
 
-        module _ (Y Z : List ℕ) (o : Answer)
-            (b : (k : CaseItem goals text symbols ins vars facts lists n J X now x sort j premises used (take (length cells - at) (drop at cells))) →
-            PassedAs J X Y Z now (induct_case k.S (motive_in (made J X now) x sort j premises) k.y c (made J X now)) o) where
-          pub cases_stopped : {q d : ℕ} {new : Mark} → o ≡ No q d new →
-              Stopped I W Y Z old (induct_cases g.S (motive_in (made I W old) x sort j premises) g.xs (constructors g.S.theory sort) (made I W old)) q d new
-          cases_stopped f =
-              on_no _ split (subst (PassedAs J X Y Z now (induct_case g.S (motive_in (made J X now) x sort j premises) one.first c (made J X now))) f (b cases_given))
+        module _ {c : ℕ} (e : r ≡ some c) where
+          found : next_constructor g.S.theory sort from ≡ some c
+          found = found_at (next_constructor g.S.theory sort from) r c told e
 
-          pub cases_again : {k : ℕ} {new : Mark} → o ≡ Ok k new → (map' memo' ids' : List ℕ) → (map' ≡ map) × (memo' ≡ memo) → length ids' ≡ length ids → {next : ℕ} →
-              next ≡ behind at (item_at cells at) →
-              CasesLeft g.S g.xs text I W old x sort j premises cells map₀ memo₀ ids₀ Y Z map' memo' ids' new (c + 1) next
-          cases_again f map' memo' ids' s i e' =
+          pub cases_known : c < n.symbols
+          cases_known = omega (arith, next_inside g.S.theory sort from c found, g.refers.reads.spelling.held.many)
+
+          pub cases_small : c < SYMBOLS
+          cases_small = omega (arith, cases_known, symbols_few g.refers.reads.spelling.held)
+
+          abbrev pub cases_item : CaseItem K n used part
+          cases_item =
               record {
-                zs = one.others;
-                walk = walk_behind here e';
-                on = on_ok _ split (subst (PassedAs J X Y Z now (induct_case g.S (motive_in (made J X now) x sort j premises) one.first c (made J X now))) f (b cases_given));
-                long = i ∙ h.long;
-                map_same = s.0 ∙ h.map_same;
-                memo_same = s.1 ∙ h.memo_same;
+                S = g.S;
+                trees = made J X now;
+                y = one.first;
+                ys = one.others;
+                spelling = (refers_on g.refers (grown_grows h.on.grown) h.on.grown.good).reads.spelling;
+                wide = g.wide;
+                items = subst (λ (z : List ℕ). Holds K.text z (cons one.first one.others)) (sym w.is) (walk_rest here);
               }
+
+          split : On I W old whole J X now
+              (then (induct_case g.S (motive_in (made I W old) x sort j premises) one.first c (made J X now))
+              (λ z U. induct_cases g.S (motive_in (made I W old) x sort j premises) one.others (onward g.S.theory sort (c + 1)) U))
+          unfolding induct_cases
+          split =
+              on_is h.on
+              (λ i. induct_cases g.S (motive_in (made I W old) x sort j premises) (one.is i) (onward_some g.S.theory sort from c found i) (made J X now))
+
+          pub cases_unread : {q d : ℕ} →
+              ((k : CaseItem K n used part) (M : Motive) → holds used ≡ motive_vars M → (U : Made) → induct_case k.S M k.y c U ≡ refuse q d U) →
+              Stopped I W J X old whole q d now
+          cases_unread b = on_stop _ split (b cases_item (motive_in (made I W old) x sort j premises) g.used_are (made J X now))
+
+          module _ {i d : ℕ} {own sorts : List ℕ}
+              (b : (k : CaseItem K n used part) (M : Motive) → holds used ≡ motive_vars M → CaseRead k.S M k.y c i own sorts × (d ≡ c)) where
+            read : CaseRead g.S (motive_in (made I W old) x sort j premises) one.first c i own sorts
+            read = (b cases_item (motive_in (made I W old) x sort j premises) g.used_are).0
+
+            same : d ≡ c
+            same = (b cases_item (motive_in (made I W old) x sort j premises) g.used_are).1
+
+            abbrev pub cases_in : InCase facts lists n J X now x sort j premises used
+            cases_in =
+                record {
+                  S = g.S;
+                  footings = footings;
+                  recorded = (refers_on g.refers (grown_grows h.on.grown) h.on.grown.good).recorded;
+                  motived = motived_on h.on.grown g.motived;
+                  used_are = g.used_are ∙ ap motive_vars (sym (motive_on sort h.on.grown g.motived));
+                  wide = g.wide;
+                }
+
+            pub cases_cased : Casing J X now d own × (length sorts ≡ length own)
+            cases_cased = (record { good = h.on.grown.good; symbol = subst (λ (z : ℕ). z < SYMBOLS) (sym same) cases_small; narrow = read.narrow; small = read.small }, read.many)
+
+            cased : On I W old whole J X now
+                (then (case_terms g.S (motive_in (made J X now) x sort j premises) i d own sorts (made J X now))
+                (λ z U. induct_cases g.S (motive_in (made I W old) x sort j premises) one.others (onward g.S.theory sort (c + 1)) U))
+            cased =
+                on_is split
+                (λ k. then ((read.is (made J X now)
+                ∙ (λ l. case_terms g.S (sym (motive_on sort h.on.grown g.motived) l) i (sym same l) own sorts (made J X now))) k)
+                (λ z U. induct_cases g.S (motive_in (made I W old) x sort j premises) one.others (onward g.S.theory sort (c + 1)) U))
+
+            module _ (Y Z : List ℕ) (new : Mark) where
+              pub cases_stopped : {q e : ℕ} →
+                  ((k : InCase facts lists n J X now x sort j premises used) →
+                  Stopped J X Y Z now (case_terms k.S (motive_in (made J X now) x sort j premises) i d own sorts (made J X now)) q e new) →
+                  Stopped I W Y Z old whole q e new
+              cases_stopped f = on_no _ cased (f cases_in)
+
+              pub cases_again :
+                  ((k : InCase facts lists n J X now x sort j premises used) →
+                  Went J X Y Z now (case_terms k.S (motive_in (made J X now) x sort j premises) i d own sorts (made J X now)) tt new) →
+                  CasesLeft g.S g.xs K.text I W old x sort j premises cells Y Z new (c + 1) next.at
+              cases_again f = record { zs = one.others; walk = walk_behind here w.behind; on = on_ok _ cased (f cases_in) }
 
 -- The questions before -----------------------------------------------------------------------------------------------------------------------
 
-module _ {goals text symbols ins vars facts lists : List ℕ} {n : Sizes} {I W : List ℕ} {m : Mark} {x j : ℕ} {premises cells : List ℕ}
-    (g : MotiveItems goals text symbols ins vars facts lists n I W m x j premises cells) where
-  pub motive_sorts : (length vars ≡ 4 * VARIABLES) × (x < VARIABLES)
-  motive_sorts = (vars_long g.refers.reads.spelling.vars.stand, g.motived.small)
-
+module _ {K : Names} {facts footings lists : List ℕ} {n : Sizes} {I W : List ℕ} {m : Mark} {x j : ℕ} {premises cells : List ℕ}
+    (g : MotiveItems K facts footings lists n I W m x j premises cells) where
   pub motive_items : Items cells
   motive_items = (g.xs, g.items.cells)
 
-  pub motive_counted : CountedSymbols symbols n.symbols
-  motive_counted = (g.theory, (ins, (g.S.theory.symbols, g.refers.reads.spelling.held)))
-
-  module _ {sort : ℕ} (e : sort ≡ cell 4 vars x 0) where
-    pub sort_is : sort ≡ sort_of_var g.S.vars x
-    sort_is = e ∙ var_sort_is g.refers.reads.spelling.vars.stand x
+  module _ (sort : ℕ) where
+    abbrev pub asked : Out Made (Unit {0})
+    asked = on_motive g.S (motive_in (made I W m) x sort j premises) g.xs (made I W m)
 
     module _ {k many : ℕ} (a : (ys : Sexps) → cells ≡ encodes ys → k ≡ count ys)
-        (b : (T : Theory) (text ins : List ℕ) → SymbolsHeld text symbols ins n.symbols T.symbols → many ≡ length (constructors T sort)) where
+        (b : (T : Theory) (text ins : List ℕ) → SymbolsHeld text K.symbols ins n.symbols T.symbols → many ≡ length (constructors T sort)) where
       counted : count g.xs ≡ k
       counted = sym (a g.xs g.items.cells)
 
-      listed : length (constructors g.S.theory (sort_of_var g.S.vars x)) ≡ many
-      listed = sym (b g.S.theory g.theory ins g.refers.reads.spelling.held ∙ ap (λ (s : ℕ). length (constructors g.S.theory s)) sort_is)
+      listed : length (constructors g.S.theory sort) ≡ many
+      listed = sym (b g.S.theory K.theory K.inputs g.refers.reads.spelling.held)
 
-      pub motive_count : (k ≡ many → ⊥) →
-          Stopped I W I W m (on_motive g.S (motive_in (made I W m) x (sort_of_var g.S.vars x) j premises) g.xs (made I W m)) 41 0 m
+      pub motive_count : (k ≡ many → ⊥) → Stopped I W I W m asked 41 0 m
       unfolding on_motive
       motive_count q = on_ask_no _ 41 (on_start g.motived.good) (ne_eqb (count g.xs) _ (λ z. q (sym counted ∙ z ∙ listed)))
 
-      module _ (q : k ≡ many) (used : List ℕ) (u : (s : ℕ) → holds used ≡ motive_vars (motive_in (made I W m) x s j premises)) where
-        right : On I W m (on_motive g.S (motive_in (made I W m) x (sort_of_var g.S.vars x) j premises) g.xs (made I W m)) I W m
-            (then (ask 45 (motive_vars (motive_in (made I W m) x (sort_of_var g.S.vars x) j premises) x) (made I W m))
-            (λ z U. induct_cases g.S (motive_in (made I W m) x (sort_of_var g.S.vars x) j premises) g.xs (constructors g.S.theory (sort_of_var g.S.vars x)) U))
+      module _ (q : k ≡ many) (used : List ℕ) (u : holds used ≡ motive_vars (motive_in (made I W m) x sort j premises)) where
+        right : On I W m asked I W m
+            (then (ask 45 (motive_vars (motive_in (made I W m) x sort j premises) x) (made I W m))
+            (λ z U. induct_cases g.S (motive_in (made I W m) x sort j premises) g.xs (constructors g.S.theory sort) U))
         unfolding on_motive
         right = on_ask_yes _ 41 (on_start g.motived.good) (eq-eqb (count g.xs) _ (counted ∙ q ∙ sym listed))
 
-        module _ (t : Bool) (v : t ≡ holds used x) where
-          asked : motive_vars (motive_in (made I W m) x (sort_of_var g.S.vars x) j premises) x ≡ t
-          asked = sym (v ∙ (λ i. u (sort_of_var g.S.vars x) i x))
+        occurs : {t : Bool} → t ≡ holds used x → motive_vars (motive_in (made I W m) x sort j premises) x ≡ t
+        occurs v = sym (v ∙ (λ i. u i x))
 
-          pub motive_absent : t ≡ false → Stopped I W I W m (on_motive g.S (motive_in (made I W m) x (sort_of_var g.S.vars x) j premises) g.xs (made I W m)) 45 0 m
-          motive_absent f = on_ask_no _ 45 right (asked ∙ f)
+        pub motive_absent : {t : Bool} → t ≡ holds used x → t ≡ false → Stopped I W I W m asked 45 0 m
+        motive_absent v f = on_ask_no _ 45 right (occurs v ∙ f)
 
-          abbrev pub motive_cases : length used ≡ VARIABLEWORDS → CaseItems goals text symbols ins vars facts lists n I W m x sort j premises used cells
-          motive_cases l =
-              record {
-                S = g.S;
-                theory = g.theory;
-                defs = g.defs;
-                footings = g.footings;
-                xs = g.xs;
-                refers = g.refers;
-                motived = g.motived;
-                used_are = u sort;
-                wide = l;
-                items = g.items;
-              }
+        abbrev pub motive_cases : length used ≡ VARIABLEWORDS → CaseItems K facts footings lists n I W m x sort j premises used cells
+        motive_cases l = record { S = g.S; xs = g.xs; refers = g.refers; motived = g.motived; used_are = u; wide = l; items = g.items }
 
-          pub motive_passed : t ≡ true → (Y Z : List ℕ) (o : Answer) →
-              PassedAs I W Y Z m (induct_cases g.S (motive_in (made I W m) x sort j premises) g.xs (constructors g.S.theory sort) (made I W m)) o →
-              PassedAs I W Y Z m (on_motive g.S (motive_in (made I W m) x (sort_of_var g.S.vars x) j premises) g.xs (made I W m)) o
-          motive_passed f Y Z o p =
-              passed_on Y Z o
-              (on_is (on_ask_yes _ 45 right (asked ∙ f))
-              (ap (λ (s : ℕ). induct_cases g.S (motive_in (made I W m) x s j premises) g.xs (constructors g.S.theory s) (made I W m)) (sym sort_is))) p
+        pub motive_passed : {t : Bool} → t ≡ holds used x → t ≡ true → (l : length used ≡ VARIABLEWORDS) (Y Z : List ℕ) (new : Mark) (o : Result (Unit {0}) Question) →
+            ((k : CaseItems K facts footings lists n I W m x sort j premises used cells) →
+            PassedBy I W Y Z m new (induct_cases k.S (motive_in (made I W m) x sort j premises) k.xs (constructors k.S.theory sort) (made I W m)) o) →
+            PassedBy I W Y Z m new asked o
+        motive_passed v f l Y Z new o p = passed_on Y Z new o (on_ask_yes _ 45 right (occurs v ∙ f)) (p (motive_cases l))

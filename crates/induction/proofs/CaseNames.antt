@@ -1,9 +1,9 @@
 -- The variables that a case names: of the sorts, new to the motive and to each other. Assumes nothing.
 use mathlib.Core.Path.{◌≡◌, refl, sym, ap, ◌∙◌, subst}
-use mathlib.Core.Bool.{Bool, true, false, ◌&&◌, ◌||◌, not, false≢true}
+use mathlib.Core.Bool.{Bool, true, false, ◌&&◌, ◌||◌, not}
 use Rattle.std.specs.Prelude.{Option, Some as some, None as nothing}
 use mathlib.Core.List.{List, [], ◌∷◌, ◌++◌}
-use Prim.Native.Nat.{ℕ, suc, ◌+◌, ◌-◌, ◌*◌, ◌<◌, ◌≤◌}
+use Prim.Native.Nat.{ℕ, suc, ◌+◌, ◌*◌, ◌<◌, ◌≤◌}
 use native.Mathlib.Omega.{arith}
 use native.Mathlib.Numerals.{add-one}
 use lib.Dec.{eqb}
@@ -20,7 +20,7 @@ use Rattle.rules.specs.State.{State, Var, no_var, var_named, sort_of_var}
 use Rattle.rules.specs.Induct.{Motive, motive_vars, case_vars}
 use Rattle.rules.specs.Laws.Find.{first_some}
 use Rattle.sexp.specs.Items.{Holds, item_at, behind}
-use Rattle.sexp.specs.ItemLaws.{More, At, at_next, item_here, behind_item, some_cells}
+use Rattle.sexp.specs.ItemLaws.{More, At, at_next, item_here, behind_item}
 use Rattle.sexp.specs.Encode.{encode}
 use Rattle.sexp.specs.WalkLaws.{Walk, walk_start, walk_more, walk_over, walk_rest}
 use Rattle.sexp.specs.FoundLaws.{found_at, found_missing}
@@ -31,8 +31,11 @@ use Rattle.state.specs.Held.{VarsHeld}
 use Rattle.state.specs.Rows.{SomeVars, cell}
 use Rattle.state.specs.VarLaws.{vars_long, var_sort_is}
 use Rattle.reading.specs.Items.{FirstItem, variable_in, variable_found}
-use Rattle.induction.specs.Inducing.{Below, CaseNames}
-use Rattle.induction.proofs.Moves.{below_snoc}
+use Rattle.sexp.specs.Each.{Here}
+use Rattle.sexp.specs.declared.items.Each.{Each}
+use Rattle.referring.specs.Substitutes.{Below}
+use Rattle.referring.specs.Laws.Substitutes.{below_snoc}
+use Rattle.induction.specs.Inducing.{CaseNames, Named}
 
 -- the place behind an item
 module _ {text words : List ℕ} {at : ℕ} {x : Sexp} {ys : Sexps} (k : Walk text words at (cons x ys)) {next : ℕ} (e : next ≡ behind at (item_at words at)) where
@@ -41,9 +44,6 @@ module _ {text words : List ℕ} {at : ℕ} {x : Sexp} {ys : Sexps} (k : Walk te
 
   pub walk_behind : Walk text words next ys
   walk_behind = record { here = subst (λ (z : ℕ). At words z ys) (sym next_is) (at_next k.here); spelt = k.spelt.1 }
-
-  pub walk_further : at < next
-  walk_further = omega (arith, next_is, some_cells x)
 
 -- a variable that is found is one of them
 pub variable_below : (vs : List Var) (x : Sexp) (v : ℕ) → variable_in vs x ≡ some v → v < length vs
@@ -109,24 +109,20 @@ count_cons x xs zs e = ap count e
 
 module _ {goals text vars : List ℕ} {n : ℕ} {sorts used cells : List ℕ} (g : CaseNames goals text vars n sorts used cells) {out seen : List ℕ} {k at : ℕ}
     (h : NamesLeft g.S g.xs text sorts used cells out seen k at) where
-  pub names_done : length cells ≤ at → (M : Motive) → holds used ≡ motive_vars M → (U : Made) →
-      case_vars g.S M g.xs sorts [] U ≡ ok (take (length sorts) out) U
+  pub names_done : length cells ≤ at → (M : Motive) → holds used ≡ motive_vars M → Named (case_vars g.S M g.xs sorts []) (length sorts) out
   unfolding case_vars count
-  names_done l M q U =
+  names_done l M q =
       let z = walk_over h.walk l in
       let e : k ≡ length sorts = let y = ap count z in omega (arith, h.many, y) in
-      h.on M q U ∙ ap (λ (xs : Sexps). case_vars g.S M xs (drop k sorts) (take k out) U) z ∙ ap (λ (i : ℕ). ok (take i out) U) e
+      record {
+        are = λ U. h.on M q U ∙ ap (λ (xs : Sexps). case_vars g.S M xs (drop k sorts) (take k out) U) z ∙ ap (λ (i : ℕ). ok (take i out) U) e;
+        small = subst (λ (i : ℕ). Below VARIABLES (take i out)) e h.small;
+        long = h.long;
+      }
 
-  pub names_small : length cells ≤ at → Below VARIABLES (take (length sorts) out)
-  unfolding count
-  names_small l =
-      let y = ap count (walk_over h.walk l) in
-      let e : k ≡ length sorts = omega (arith, h.many, y) in
-      subst (λ (i : ℕ). Below VARIABLES (take i out)) e h.small
-
-  module _ (l : at < length cells) where
+  module _ {part : List ℕ} {next : Each} (w : Here cells part at next) where
     item : More h.zs
-    item = walk_more h.walk l
+    item = walk_more h.walk w.inside
 
     here : Walk text cells at (cons item.first item.others)
     here = subst (λ (z : Sexps). Walk text cells at z) item.is h.walk
@@ -137,8 +133,11 @@ module _ {goals text vars : List ℕ} {n : ℕ} {sorts used cells : List ℕ} (g
     pub names_room : k < length out
     names_room = omega (arith, names_place, g.few, h.long)
 
-    pub names_given : FirstItem text (take (length cells - at) (drop at cells)) × SomeVars goals text vars n
-    names_given = (record { x = item.first; ys = item.others; holds = walk_rest here }, (g.S.vars, g.held))
+    spelled : Holds text part (cons item.first item.others)
+    spelled = subst (λ (z : List ℕ). Holds text z (cons item.first item.others)) (sym w.is) (walk_rest here)
+
+    pub names_given : FirstItem text part × SomeVars goals text vars n
+    names_given = (record { x = item.first; ys = item.others; holds = spelled }, (g.S.vars, g.held))
 
     split : (M : Motive) → holds used ≡ motive_vars M → (U : Made) → case_vars g.S M g.xs sorts [] U
         ≡ then (found 42 (variable_in g.S.vars item.first) U)
@@ -148,10 +147,9 @@ module _ {goals text vars : List ℕ} {n : ℕ} {sorts used cells : List ℕ} (g
         ∙ (λ i. case_vars g.S M (item.is i) (drop-cons sorts k 0 names_place i) (take k out) U)
         ∙ step g.S M item.first item.others (get_or sorts k 0) (drop (suc k) sorts) (take k out) U
 
-    module _ {r : Option ℕ} (a : (vs : List Var) (x : Sexp) (ys : Sexps) → VarsHeld goals text vars n vs → Holds text (take (length cells - at) (drop at cells)) (cons x ys) →
-        r ≡ (variable_in vs x)) where
+    module _ {r : Option ℕ} (a : (vs : List Var) (x : Sexp) (ys : Sexps) → VarsHeld goals text vars n vs → Holds text part (cons x ys) → r ≡ (variable_in vs x)) where
       answer : r ≡ (variable_in g.S.vars item.first)
-      answer = a g.S.vars item.first item.others g.held (walk_rest here)
+      answer = a g.S.vars item.first item.others g.held spelled
 
       pub names_unknown : r ≡ nothing → (M : Motive) → holds used ≡ motive_vars M → (U : Made) → case_vars g.S M g.xs sorts [] U ≡ refuse 42 0 U
       unfolding then
@@ -219,14 +217,14 @@ module _ {goals text vars : List ℕ} {n : ℕ} {sorts used cells : List ℕ} (g
               pub names_twice : u ≡ true → (M : Motive) → holds used ≡ motive_vars M → (U : Made) → case_vars g.S M g.xs sorts [] U ≡ refuse 42 0 U
               names_twice y M q U = failed M q U (λ i. fits i && (not (new M q i) && not ((unseen ∙ y) i)))
 
-              pub names_again : u ≡ false → (seen' : List ℕ) → length seen' ≡ length seen → holds seen' ≡ plus v (holds seen) → {next : ℕ} →
-                  next ≡ behind at (item_at cells at) → NamesLeft g.S g.xs text sorts used cells (set out k v) seen' (k + 1) next
+              pub names_again : u ≡ false → (seen' : List ℕ) → length seen' ≡ length seen → holds seen' ≡ plus v (holds seen) →
+                  NamesLeft g.S g.xs text sorts used cells (set out k v) seen' (k + 1) next.at
               unfolding then
-              names_again y seen' w x z =
+              names_again y seen' z x =
                   let o : take (k + 1) (set out k v) ≡ take k out ++ (v ∷ []) = ap (λ (i : ℕ). take i (set out k v)) (add-one k) ∙ take-suc-set out k v names_room in
                   record {
                     zs = item.others;
-                    walk = walk_behind here z;
+                    walk = walk_behind here w.behind;
                     many = omega (arith, h.many, count_cons item.first item.others h.zs item.is);
                     on = λ M q U.
                         tested M q U
@@ -235,14 +233,7 @@ module _ {goals text vars : List ℕ} {n : ℕ} {sorts used cells : List ℕ} (g
                         ∙ (λ i. case_vars g.S M item.others (drop (sym (add-one k) i) sorts) (sym o i) U);
                     seen_are = x ∙ (λ i a. (ap (λ (b : Bool). b || eqb a v) (ap (λ (c : Set). c a) h.seen_are) ∙ sym (has_snoc (take k out) v a)) i)
                         ∙ ap has (sym o);
-                    small = subst (Below VARIABLES) (sym o) (below_snoc VARIABLES (take k out) v h.small names_variable);
+                    small = subst (Below VARIABLES) (sym o) (below_snoc (take k out) h.small names_variable);
                     long = length-set out k v ∙ h.long;
-                    wide = w ∙ h.wide;
+                    wide = z ∙ h.wide;
                   }
-
-              pub names_less : {next : ℕ} → next ≡ behind at (item_at cells at) → at < next
-              names_less z = walk_further here z
-
--- no answer is no list of variables
-pub not_yes : {A : Type 0} → false ≡ true → A
-not_yes e = absurd (false≢true e)

@@ -1,6 +1,6 @@
--- One case as it is spelled, and the loop over cases, each with a constructor of the sort. Assumes nothing.
+-- One case as it is spelled. Assumes nothing.
 use mathlib.Core.Path.{◌≡◌, refl, sym, ap, ◌∙◌, subst}
-use mathlib.Core.Bool.{Bool, true, false}
+use mathlib.Core.Bool.{Bool}
 use Rattle.std.specs.Prelude.{Option, Some as some, None as nothing}
 use mathlib.Core.List.{List, []}
 use Prim.Native.Nat.{ℕ, suc, ◌+◌, ◌-◌, ◌*◌, ◌<◌, ◌≤◌}
@@ -9,8 +9,8 @@ use lib.Dec.{eqb}
 use lib.ListN.{length, take, drop, length-drop, length-take}
 use lib.Seq.{ext_get_or, get_or-take, get_or-drop, length-take-le}
 use borrow.Author.Tests.{eq-eqb, ne_eqb}
-use Rattle.rules.specs.Limits.{SYMBOLS, ARGUMENTS, VARIABLES}
-use Rattle.rules.specs.Out.{Out, ok, then, found, ask}
+use Rattle.rules.specs.Limits.{ARGUMENTS}
+use Rattle.rules.specs.Out.{Out, ok, refuse, then, found, ask}
 use Rattle.rules.specs.Sexp.{Sexp, Sexps, list, nil, cons, count, item, rest, items}
 use Rattle.rules.specs.Tree.{Tree, app, single}
 use Rattle.rules.specs.Store.{Made, keep, substitute, substitutes}
@@ -18,6 +18,7 @@ use Rattle.rules.specs.Theory.{Theory, no_symbol, inputs}
 use Rattle.rules.specs.State.{State}
 use Rattle.rules.specs.Induct.{Motive, motive_vars, Hyp, case_vars, keep_vars, hypotheses, induct_case}
 use Rattle.rules.specs.Laws.Out.{then_then}
+use Rattle.rules.specs.Laws.Store.{then_ok, then_refuse}
 use Rattle.rules.specs.Laws.Theory.{all_at}
 use Rattle.sexp.specs.Encode.{encodes}
 use Rattle.sexp.specs.Items.{Holds, Items, item_at, behind}
@@ -28,23 +29,13 @@ use Rattle.sexp.specs.FoundLaws.{found_at, found_missing}
 use Rattle.sexp.specs.declared.items.Item.{Item}
 use Rattle.sexp.specs.declared.items.Item.TheVariants.{Atom, List as Part}
 use Rattle.kernel.specs.Held.{SymbolsHeld}
-use Rattle.kernel.specs.Readers.{KnownSymbol}
 use Rattle.kernel.specs.SignatureRows.{symbols_few, argument_cell}
-use Rattle.terms.specs.declared.store.Mark.{Mark}
-use Rattle.terms.specs.Table.{made}
 use Rattle.terms.specs.Sets.{holds}
-use Rattle.terms.specs.On.{Stopped, On, on_start, on_is, on_pure, on_stop, on_went, on_stopped, on_ask_yes, on_ask_no}
 use Rattle.state.specs.declared.sizes.Sizes.{Sizes}
-use Rattle.reading.specs.declared.apart.Out.{Out as Answer}
-use Rattle.reading.specs.declared.apart.Out.TheVariants.{Ok, No}
+use Rattle.state.specs.Held.{Names}
 use Rattle.reading.specs.Items.{FirstItem, index_in, index_found}
-use Rattle.induction.specs.Inducing.{Below, PassedAs, motive_in, judgment_first, keep_case, Casing, at_constructor, case_fact, case_terms, InCase, CaseNames, case_named, CaseItem}
+use Rattle.induction.specs.Inducing.{judgment_first, keep_case, at_constructor, case_fact, case_terms, CaseNames, Named, CaseItem, CaseRead}
 use Rattle.induction.proofs.CaseNames.{walk_behind}
-
--- what an answer says behind what went before
-pub passed_on : {I W J X : List ℕ} {old now : Mark} {K L : Out Made (Unit {0})} (Y Z : List ℕ) (r : Answer) → On I W old K J X now L → PassedAs J X Y Z now L r → PassedAs I W Y Z old K r
-passed_on Y Z (Ok k new) o w = on_went o w
-passed_on Y Z (No q d new) o s = on_stopped o s
 
 -- The definition --------------------------------------------------------------------------------------------------------------------------
 
@@ -91,69 +82,65 @@ rest_none (cons x xs) = refl
 
 -- One case ---------------------------------------------------------------------------------------------------------------------------------
 
-module _ {goals text symbols ins vars facts lists : List ℕ} {n : Sizes} {I W : List ℕ} {m : Mark} {x sort j : ℕ} {premises used cells : List ℕ} (c : ℕ)
-    (g : CaseItem goals text symbols ins vars facts lists n I W m x sort j premises used cells) where
-  pub known_symbol : c < n.symbols → KnownSymbol symbols c
-  known_symbol l =
-      record { text = g.theory; inputs = ins; count = n.symbols; held = (g.S.theory.symbols, g.refers.reads.spelling.held); known = l }
-
+module _ {K : Names} {n : Sizes} {used cells : List ℕ} (c : ℕ) (g : CaseItem K n used cells) where
   pub case_cell : 0 < length cells
   case_cell = at_inside (walk_start g.items).here
 
   module _ {thing : Item} (e : thing ≡ item_at cells 0) where
-    pub case_atom_lem : {p : ℕ} → thing ≡ Atom p → Stopped I W I W m (induct_case g.S (motive_in (made I W m) x sort j premises) g.y c (made I W m)) 41 0 m
+    pub case_atom_lem : {p : ℕ} → thing ≡ Atom p → (M : Motive) (U : Made) → induct_case g.S M g.y c U ≡ refuse 41 0 U
     unfolding induct_case items
-    case_atom_lem f = on_stop _ (on_start g.motived.good) (ap (λ (z : Sexp). items 41 z (made I W m)) (walk_atom (walk_start g.items) e f).is)
+    case_atom_lem f M U = then_refuse (items 41 g.y U) 41 0 U _ (ap (λ (z : Sexp). items 41 z U) (walk_atom (walk_start g.items) e f).is)
 
     module _ {a b : ℕ} (f : thing ≡ Part a b) where
-      pub case_list : ListIs text cells g.y a b
+      pub case_list : ListIs K.text cells g.y a b
       case_list = walk_list (walk_start g.items) e f
 
       pub case_items : Items (take (b - a) (drop a cells))
       case_items = (case_list.items, case_list.holds.cells)
 
-      on_list : On I W m (induct_case g.S (motive_in (made I W m) x sort j premises) g.y c (made I W m)) I W m
-          (case_of g.S (motive_in (made I W m) x sort j premises) c case_list.items (made I W m))
-      on_list =
-          on_is (on_start g.motived.good)
-          (ap (λ (z : Sexp). induct_case g.S (motive_in (made I W m) x sort j premises) z c (made I W m)) case_list.is
-          ∙ case_is g.S (motive_in (made I W m) x sort j premises) c case_list.items (made I W m))
+      on_list : (M : Motive) (U : Made) → induct_case g.S M g.y c U ≡ case_of g.S M c case_list.items U
+      on_list M U = ap (λ (z : Sexp). induct_case g.S M z c U) case_list.is ∙ case_is g.S M c case_list.items U
 
-      pub case_none : length (take (b - a) (drop a cells)) ≡ 0 → Stopped I W I W m (induct_case g.S (motive_in (made I W m) x sort j premises) g.y c (made I W m)) 41 0 m
+      pub case_none : length (take (b - a) (drop a cells)) ≡ 0 → (M : Motive) (U : Made) → induct_case g.S M g.y c U ≡ refuse 41 0 U
       unfolding item index_in
-      case_none l = on_stop _ on_list (ap (λ (ys : Sexps). found 41 (index_in (item ys 0)) (made I W m)) (none_left case_list.holds l))
+      case_none l M U =
+          on_list M U ∙ then_refuse (found 41 (index_in (item case_list.items 0)) U) 41 0 U _
+          (ap (λ (ys : Sexps). found 41 (index_in (item ys 0)) U) (none_left case_list.holds l))
 
       module _ (l : length (take (b - a) (drop a cells)) ≡ 0 → ⊥) where
         pub begins : More case_list.items
         begins = walk_more (walk_start case_list.holds) (omega (arith, l))
 
-        holds_some : Holds text (take (b - a) (drop a cells)) (cons begins.first begins.others)
-        holds_some = subst (λ (z : Sexps). Holds text (take (b - a) (drop a cells)) z) begins.is case_list.holds
+        holds_some : Holds K.text (take (b - a) (drop a cells)) (cons begins.first begins.others)
+        holds_some = subst (λ (z : Sexps). Holds K.text (take (b - a) (drop a cells)) z) begins.is case_list.holds
 
-        pub case_first : FirstItem text (take (b - a) (drop a cells))
+        pub case_first : FirstItem K.text (take (b - a) (drop a cells))
         case_first = record { x = begins.first; ys = begins.others; holds = holds_some }
 
-        module _ {r : Option ℕ} (h : (z : Sexp) (zs : Sexps) → Holds text (take (b - a) (drop a cells)) (cons z zs) → r ≡ (index_in z)) where
+        module _ {r : Option ℕ} (h : (z : Sexp) (zs : Sexps) → Holds K.text (take (b - a) (drop a cells)) (cons z zs) → r ≡ (index_in z)) where
           told : r ≡ (index_in (item case_list.items 0))
           told = h begins.first begins.others holds_some ∙ ap (λ (z : Sexp). (index_in z)) (sym (ap (λ (zs : Sexps). item zs 0) begins.is ∙ first_of begins.first begins.others))
 
-          pub case_unread : r ≡ nothing → Stopped I W I W m (induct_case g.S (motive_in (made I W m) x sort j premises) g.y c (made I W m)) 41 0 m
-          case_unread q = on_stop _ on_list (ap (λ (o : Option ℕ). found 41 o (made I W m)) (found_missing (index_in (item case_list.items 0)) r told q))
+          pub case_unread : r ≡ nothing → (M : Motive) (U : Made) → induct_case g.S M g.y c U ≡ refuse 41 0 U
+          case_unread q M U =
+              on_list M U ∙ then_refuse (found 41 (index_in (item case_list.items 0)) U) 41 0 U _
+              (ap (λ (o : Option ℕ). found 41 o U) (found_missing (index_in (item case_list.items 0)) r told q))
 
           module _ {i : ℕ} (q : r ≡ some i) (known : c < n.symbols) where
-            on_index : On I W m (induct_case g.S (motive_in (made I W m) x sort j premises) g.y c (made I W m)) I W m
-                (then (ask 41 (eqb (count case_list.items) (suc (length (inputs g.S.theory c)))) (made I W m))
-                (λ z D. then (case_vars g.S (motive_in (made I W m) x sort j premises) (rest case_list.items 1) (inputs g.S.theory c) [] D)
-                (λ vs E. case_terms g.S (motive_in (made I W m) x sort j premises) i c vs (inputs g.S.theory c) E)))
-            on_index = on_pure _ on_list (ap (λ (o : Option ℕ). found 41 o (made I W m)) (found_at (index_in (item case_list.items 0)) r i told q))
+            on_index : (M : Motive) (U : Made) → induct_case g.S M g.y c U
+                ≡ then (ask 41 (eqb (count case_list.items) (suc (length (inputs g.S.theory c)))) U)
+                (λ z D. then (case_vars g.S M (rest case_list.items 1) (inputs g.S.theory c) [] D) (λ vs E. case_terms g.S M i c vs (inputs g.S.theory c) E))
+            on_index M U =
+                on_list M U ∙ then_ok (found 41 (index_in (item case_list.items 0)) U) i U _
+                (ap (λ (o : Option ℕ). found 41 o U) (found_at (index_in (item case_list.items 0)) r i told q))
 
-            held : SymbolsHeld g.theory symbols ins n.symbols g.S.theory.symbols
-            held = g.refers.reads.spelling.held
+            held : SymbolsHeld K.theory K.symbols K.inputs n.symbols g.S.theory.symbols
+            held = g.spelling.held
 
-            module _ {many k : ℕ} (p : (T : Theory) (text ins : List ℕ) (count : ℕ) → SymbolsHeld text symbols ins count T.symbols → c < count → many ≡ length (inputs T c))
+            module _ {many k : ℕ} (p : (T : Theory) (text ins : List ℕ) (count : ℕ) → SymbolsHeld text K.symbols ins count T.symbols → c < count → many ≡ length (inputs T c))
                 (u : (ys : Sexps) → take (b - a) (drop a cells) ≡ encodes ys → k ≡ count ys) where
               pub many_is : many ≡ length (inputs g.S.theory c)
-              many_is = p g.S.theory g.theory ins n.symbols held known
+              many_is = p g.S.theory K.theory K.inputs n.symbols held known
 
               pub many_few : many ≤ ARGUMENTS
               unfolding inputs
@@ -162,45 +149,44 @@ module _ {goals text symbols ins vars facts lists : List ℕ} {n : Sizes} {I W :
               count_is : k ≡ count case_list.items
               count_is = u case_list.items case_list.holds.cells
 
-              pub case_count : (k ≡ many + 1 → ⊥) → Stopped I W I W m (induct_case g.S (motive_in (made I W m) x sort j premises) g.y c (made I W m)) 41 0 m
-              case_count z =
-                  on_ask_no _ 41 on_index
-                  (ne_eqb (count case_list.items) (suc (length (inputs g.S.theory c))) (λ y. z (omega (arith, count_is, y, many_is))))
+              pub case_count : (k ≡ many + 1 → ⊥) → (M : Motive) (U : Made) → induct_case g.S M g.y c U ≡ refuse 41 0 U
+              case_count z M U =
+                  on_index M U ∙ then_refuse (ask 41 (eqb (count case_list.items) (suc (length (inputs g.S.theory c)))) U) 41 0 U _
+                  (ap (λ (y : Bool). ask 41 y U)
+                  (ne_eqb (count case_list.items) (suc (length (inputs g.S.theory c))) (λ y. z (omega (arith, count_is, y, many_is)))))
 
-              pub case_symbol : c < SYMBOLS
-              case_symbol = omega (arith, symbols_few held, known)
-
-              pub inputs_room : ARGUMENTS * c + many ≤ length ins
+              pub inputs_room : ARGUMENTS * c + many ≤ length K.inputs
               inputs_room = omega (arith, many_few, held.longs, symbols_few held, known)
 
-              pub sorts_are : take (ARGUMENTS * c + many - ARGUMENTS * c) (drop (ARGUMENTS * c) ins) ≡ inputs g.S.theory c
+              abbrev pub sorts : List ℕ
+              sorts = take (ARGUMENTS * c + many - ARGUMENTS * c) (drop (ARGUMENTS * c) K.inputs)
+
+              pub sorts_are : sorts ≡ inputs g.S.theory c
               sorts_are =
                   let e : ARGUMENTS * c + many - ARGUMENTS * c ≡ many = omega arith in
-                  ap (λ (z : ℕ). take z (drop (ARGUMENTS * c) ins)) e
-                  ∙ ext_get_or 0 (take many (drop (ARGUMENTS * c) ins)) (inputs g.S.theory c)
-                  (length-take-le many (drop (ARGUMENTS * c) ins) (omega (arith, length-drop (ARGUMENTS * c) ins, inputs_room)) ∙ many_is)
+                  ap (λ (z : ℕ). take z (drop (ARGUMENTS * c) K.inputs)) e
+                  ∙ ext_get_or 0 (take many (drop (ARGUMENTS * c) K.inputs)) (inputs g.S.theory c)
+                  (length-take-le many (drop (ARGUMENTS * c) K.inputs) (omega (arith, length-drop (ARGUMENTS * c) K.inputs, inputs_room)) ∙ many_is)
                   (λ i h.
-                  let l = length-take-le many (drop (ARGUMENTS * c) ins) (omega (arith, length-drop (ARGUMENTS * c) ins, inputs_room)) in
-                  get_or-take many (drop (ARGUMENTS * c) ins) i 0 (omega (arith, h, l)) ∙ get_or-drop (ARGUMENTS * c) ins i 0
+                  let l = length-take-le many (drop (ARGUMENTS * c) K.inputs) (omega (arith, length-drop (ARGUMENTS * c) K.inputs, inputs_room)) in
+                  get_or-take many (drop (ARGUMENTS * c) K.inputs) i 0 (omega (arith, h, l)) ∙ get_or-drop (ARGUMENTS * c) K.inputs i 0
                   ∙ argument_cell g.S.theory held c known i (omega (arith, h, l, many_is)))
 
-              pub sorts_long : length (take (ARGUMENTS * c + many - ARGUMENTS * c) (drop (ARGUMENTS * c) ins)) ≡ many
+              pub sorts_long : length sorts ≡ many
               sorts_long = ap length sorts_are ∙ sym many_is
 
               module _ (z : k ≡ many + 1) {next : ℕ} (v : next ≡ behind 0 (item_at (take (b - a) (drop a cells)) 0)) where
-                on_count : On I W m (induct_case g.S (motive_in (made I W m) x sort j premises) g.y c (made I W m)) I W m
-                    (then (case_vars g.S (motive_in (made I W m) x sort j premises) begins.others
-                    (take (ARGUMENTS * c + many - ARGUMENTS * c) (drop (ARGUMENTS * c) ins)) [] (made I W m))
-                    (λ vs E. case_terms g.S (motive_in (made I W m) x sort j premises) i c vs
-                    (take (ARGUMENTS * c + many - ARGUMENTS * c) (drop (ARGUMENTS * c) ins)) E))
-                on_count =
-                    on_is
-                    (on_ask_yes _ 41 on_index (eq-eqb (count case_list.items) (suc (length (inputs g.S.theory c))) (omega (arith, count_is, z, many_is))))
-                    (λ q. then (case_vars g.S (motive_in (made I W m) x sort j premises)
-                    ((ap (λ (ys : Sexps). rest ys 1) begins.is ∙ rest_of begins.first begins.others ∙ rest_none begins.others) q) (sym sorts_are q) [] (made I W m))
-                    (λ vs E. case_terms g.S (motive_in (made I W m) x sort j premises) i c vs (sym sorts_are q) E))
+                on_count : (M : Motive) (U : Made) → induct_case g.S M g.y c U
+                    ≡ then (case_vars g.S M begins.others sorts [] U) (λ vs E. case_terms g.S M i c vs sorts E)
+                on_count M U =
+                    on_index M U
+                    ∙ then_ok (ask 41 (eqb (count case_list.items) (suc (length (inputs g.S.theory c)))) U) tt U _
+                    (ap (λ (y : Bool). ask 41 y U) (eq-eqb (count case_list.items) (suc (length (inputs g.S.theory c))) (omega (arith, count_is, z, many_is))))
+                    ∙ (λ q. then (case_vars g.S M
+                    ((ap (λ (ys : Sexps). rest ys 1) begins.is ∙ rest_of begins.first begins.others ∙ rest_none begins.others) q) (sym sorts_are q) [] U)
+                    (λ vs E. case_terms g.S M i c vs (sym sorts_are q) E))
 
-                pub behind_walk : Walk text (take (b - a) (drop a cells)) next begins.others
+                pub behind_walk : Walk K.text (take (b - a) (drop a cells)) next begins.others
                 behind_walk = walk_behind (walk_start holds_some) v
 
                 pub behind_high : next ≤ length (take (b - a) (drop a cells))
@@ -213,57 +199,36 @@ module _ {goals text symbols ins vars facts lists : List ℕ} {n : Sizes} {I W :
                 unfolding count
                 others_count = let y = ap count begins.is in omega (arith, y, count_is, z)
 
-                abbrev pub named : CaseNames goals text vars n.vars (take (ARGUMENTS * c + many - ARGUMENTS * c) (drop (ARGUMENTS * c) ins)) used
+                abbrev pub named : CaseNames K.goals K.text K.vars n.vars sorts used
                     (take (length (take (b - a) (drop a cells)) - next) (drop next (take (b - a) (drop a cells))))
                 named =
                     record {
                       S = g.S;
                       xs = begins.others;
-                      held = g.refers.reads.spelling.vars;
+                      held = g.spelling.vars;
                       holds = walk_rest behind_walk;
                       many = others_count ∙ sym sorts_long;
                       few = omega (arith, sorts_long, many_few);
                       wide = g.wide;
                     }
 
-                module _ (own : List ℕ) (t : Bool)
-                    (w : (h : CaseNames goals text vars n.vars (take (ARGUMENTS * c + many - ARGUMENTS * c) (drop (ARGUMENTS * c) ins)) used
-                    (take (length (take (b - a) (drop a cells)) - next) (drop next (take (b - a) (drop a cells))))) →
-                    (M : Motive) → holds used ≡ motive_vars M → (U : Made) →
-                    case_vars h.S M h.xs (take (ARGUMENTS * c + many - ARGUMENTS * c) (drop (ARGUMENTS * c) ins)) [] U
-                    ≡ case_named t (take (length (take (ARGUMENTS * c + many - ARGUMENTS * c) (drop (ARGUMENTS * c) ins))) own) U) where
-                  pub case_unnamed : t ≡ false → Stopped I W I W m (induct_case g.S (motive_in (made I W m) x sort j premises) g.y c (made I W m)) 42 0 m
-                  case_unnamed o =
-                      on_stop _ on_count
-                      (w named (motive_in (made I W m) x sort j premises) g.used_are (made I W m)
-                      ∙ ap (λ (b : Bool). case_named b (take (length (take (ARGUMENTS * c + many - ARGUMENTS * c) (drop (ARGUMENTS * c) ins))) own) (made I W m)) o)
+                module _ (M : Motive) (o : holds used ≡ motive_vars M) where
+                  pub case_unnamed : {q d : ℕ} →
+                      ((h : CaseNames K.goals K.text K.vars n.vars sorts used (take (length (take (b - a) (drop a cells)) - next) (drop next (take (b - a) (drop a cells))))) →
+                      (M : Motive) → holds used ≡ motive_vars M → (U : Made) → case_vars h.S M h.xs sorts [] U ≡ refuse q d U) →
+                      (U : Made) → induct_case g.S M g.y c U ≡ refuse q d U
+                  case_unnamed {q} {d} w U = on_count M U ∙ then_refuse (case_vars g.S M begins.others sorts [] U) q d U _ (w named M o U)
 
-                  pub case_named_lem : t ≡ true → On I W m (induct_case g.S (motive_in (made I W m) x sort j premises) g.y c (made I W m)) I W m
-                      (case_terms g.S (motive_in (made I W m) x sort j premises) i c (take many own)
-                      (take (ARGUMENTS * c + many - ARGUMENTS * c) (drop (ARGUMENTS * c) ins)) (made I W m))
-                  case_named_lem o =
-                      on_is
-                      (on_pure _ on_count
-                      (w named (motive_in (made I W m) x sort j premises) g.used_are (made I W m)
-                      ∙ ap (λ (b : Bool). case_named b (take (length (take (ARGUMENTS * c + many - ARGUMENTS * c) (drop (ARGUMENTS * c) ins))) own) (made I W m)) o))
-                      (ap (λ (y : ℕ). case_terms g.S (motive_in (made I W m) x sort j premises) i c (take y own)
-                      (take (ARGUMENTS * c + many - ARGUMENTS * c) (drop (ARGUMENTS * c) ins)) (made I W m)) sorts_long)
-
-                abbrev pub in_case : InCase facts lists n I W m x sort j premises used
-                in_case =
-                    record { S = g.S; footings = g.footings; recorded = g.refers.recorded; motived = g.motived; used_are = g.used_are; wide = g.wide }
-
-                pub terms_given : (own : List ℕ) → length own ≡ ARGUMENTS → Below VARIABLES (take (length (take (ARGUMENTS * c + many - ARGUMENTS * c) (drop (ARGUMENTS * c) ins))) own) →
-                    InCase facts lists n I W m x sort j premises used × Casing I W m c (take many own)
-                    × (length (take (ARGUMENTS * c + many - ARGUMENTS * c) (drop (ARGUMENTS * c) ins)) ≡ length (take many own))
-                terms_given own l y =
-                    let d = length-take-le many own (omega (arith, l, many_few)) in (
-                      in_case,
+                  pub case_read : {own : List ℕ} →
+                      ((h : CaseNames K.goals K.text K.vars n.vars sorts used (take (length (take (b - a) (drop a cells)) - next) (drop next (take (b - a) (drop a cells))))) →
+                      (M : Motive) → holds used ≡ motive_vars M → Named (case_vars h.S M h.xs sorts []) (length sorts) own) →
+                      CaseRead g.S M g.y c i (take (length sorts) own) sorts
+                  case_read {own} w =
+                      let N : Named (case_vars g.S M begins.others sorts []) (length sorts) own = w named M o in
+                      let l : length (take (length sorts) own) ≡ length sorts = length-take-le (length sorts) own (omega (arith, N.long, sorts_long, many_few)) in
                       record {
-                        good = g.motived.good;
-                        symbol = omega (arith, symbols_few held, known);
-                        narrow = omega (arith, d, many_few);
-                        small = subst (λ (z : ℕ). Below VARIABLES (take z own)) sorts_long y;
-                      },
-                      sorts_long ∙ sym d,
-                    )
+                        is = λ U. on_count M U ∙ then_ok (case_vars g.S M begins.others sorts [] U) (take (length sorts) own) U _ (N.are U);
+                        narrow = omega (arith, l, sorts_long, many_few);
+                        small = N.small;
+                        many = sym l;
+                      }

@@ -6,34 +6,35 @@ use native.Mathlib.Omega.{arith}
 use native.Mathlib.Numerals.{add-one}
 use lib.ListN.{length, get_or, set, take, drop, replicate, length-set, length-drop, length-replicate, drop_of_length-le}
 use lib.Seq.{drop-cons, take-suc-set, length-take-le, drop-set-add, get_or-set_other}
-use Rattle.rules.specs.Limits.{VARIABLES, TERMS, NODE}
+use Rattle.std.specs.Prelude.{Result, Ok, Err}
+use Rattle.rules.specs.Limits.{TERMS, NODE}
 use Rattle.rules.specs.Out.{Out, ok, then, Act}
 use Rattle.rules.specs.Tree.{Tree, Trees, var, app, none, more, single}
 use Rattle.rules.specs.Store.{Made, keep}
 use Rattle.rules.specs.Induct.{Hyp, keep_vars, hypothesis_at}
 use Rattle.rules.specs.Laws.Out.{then_then}
+use Rattle.questions.specs.Numbers.{row_number}
+use Rattle.questions.specs.declared.Row.{Row}
 use Rattle.terms.specs.declared.store.Mark.{Mark}
-use Rattle.terms.specs.declared.apart.Kept.{Kept}
-use Rattle.terms.specs.declared.apart.Kept.TheVariants.{Term, Full}
-use Rattle.terms.specs.Table.{made, tree, tree_at, args_of, Good, Node, Shaped, is_app, Stored}
-use Rattle.terms.specs.Apart.{After}
+use Rattle.terms.specs.Table.{made, tree, tree_at, args_of, Node, Shaped, is_app, Stored, Refused, After}
 use Rattle.terms.specs.Subst.{replacement}
 use Rattle.terms.specs.On.{Stopped, On, on_start, on_is, on_ok, on_no, stored_went, refused_stopped}
-use Rattle.terms.specs.Apart.{after_term, after_full}
+use Rattle.terms.specs.Laws.Answers.{after_term, after_full}
 use Rattle.terms.specs.Laws.Growth.{grown_tree, grown_args, grown_there, grown_trans}
 use Rattle.terms.specs.Laws.Numbers.{stored_is}
 use Rattle.terms.specs.Laws.Tables.{tree_app}
-use Rattle.reading.specs.declared.apart.Out.{Out as Answer}
-use Rattle.induction.specs.Inducing.{Below, motive_in, Motived, Movable, MovedAs, judgment_first, premises_first, var_trees, keep_case, Casing, at_constructor, Scratch}
-use Rattle.induction.proofs.Moves.{ahead, ahead_none, ahead_snoc, ahead_grown, below_snoc, below_grown, moved_on, one_cell, one_bound}
+use Rattle.referring.specs.Substitutes.{Below, Replaceables}
+use Rattle.referring.specs.Laws.Substitutes.{below_none, below_snoc, below_grown, ahead, ahead_none, ahead_snoc, ahead_grown}
+use Rattle.induction.specs.Inducing.{motive_in, Motived, MovedBy, judgment_first, premises_first, var_trees, keep_case, Casing, at_constructor}
+use Rattle.induction.proofs.Moves.{moved_on, only, one_cell, one_bound}
 
 -- what an answer says behind what went before
-pub after_on : {I W J X Y Z : List ℕ} {old now : Mark} {t : Tree} {K L : Out Made Tree} (r : Kept) → On I W old K J X now L → After J X Y Z now t L r →
-    After I W Y Z old t K r
-after_on (Term n new) o a =
+after_on : {I W J X : List ℕ} {old now : Mark} {t : Tree} {K L : Out Made Tree} (Y Z : List ℕ) (new : Mark) (r : Result ℕ Row) → On I W old K J X now L →
+    After J X Y Z now new t L r → After I W Y Z old new t K r
+after_on Y Z new (Ok n) o a =
     let s = after_term a refl in
     record { says = record { grown = grown_trans o.grown s.grown; makes = o.here ∙ s.makes; numbered = s.numbered; there = s.there } }
-after_on (Full row new) o a = let s = after_full a refl in record { says = record { grown = grown_trans o.grown s.grown; makes = o.here ∙ s.makes } }
+after_on Y Z new (Err row) o a = let s = after_full a refl in record { says = record { grown = grown_trans o.grown s.grown; makes = o.here ∙ s.makes } }
 
 -- A constructor over variables ----------------------------------------------------------------------------------------------------------
 
@@ -53,7 +54,7 @@ keeping_start {c = c} g =
     record {
       on = on_start g.good;
       trees = refl;
-      known = λ k l. absurd (let z : k < 0 = l in omega arith);
+      known = below_none;
       head = refl;
       long = length-set (replicate NODE 0) 0 c ∙ length-replicate {A = ℕ} NODE 0;
       near = omega arith;
@@ -61,9 +62,6 @@ keeping_start {c = c} g =
 
 module _ {I W : List ℕ} {old : Mark} {c : ℕ} {own J X node : List ℕ} {now : Mark} {k : ℕ} (g : Casing I W old c own) (h : Keeping I W old c own J X node now k) where
   module _ (l : k < length own) where
-    pub keeping_var : Good J X now × (get_or own k 0 < VARIABLES)
-    keeping_var = (h.on.grown.good, g.small k l)
-
     split : On I W old (keep_case c own (made I W old)) J X now
         (then (keep (var (get_or own k 0)) (made J X now))
         (λ t U. then (keep_vars (drop (suc k) own) U) (λ ts N. keep (app c (ahead (made J X now) (take k (drop 1 node)) (more t ts))) N)))
@@ -75,20 +73,15 @@ module _ {I W : List ℕ} {old : Mark} {c : ℕ} {own J X node : List ℕ} {now 
         ∙ ap (λ (f : Tree → Made → Out Made Tree). then (keep (var (get_or own k 0)) (made J X now)) f)
         (λ i t U. then_then (keep_vars (drop (suc k) own) U) (λ ts N. ok (more t ts) N) (λ ts N. keep (app c (ahead (made J X now) (take k (drop 1 node)) ts)) N) i))
 
-    module _ (Y Z : List ℕ) (r : Kept) (a : After J X Y Z now (var (get_or own k 0)) (keep (var (get_or own k 0)) (made J X now)) r) where
-      pub keeping_full : {row : ℕ} {new : Mark} → r ≡ Full row new → After I W Y Z old (app c (var_trees own)) (keep_case c own (made I W old)) (Full row new)
-      keeping_full e = let s = on_no _ split (refused_stopped (after_full a e)) in record { says = record { grown = s.grown; makes = s.makes } }
+    keeping_place : k + 1 < length node
+    keeping_place = omega (arith, g.narrow, l, h.long)
 
-      module _ {t : ℕ} {new : Mark} (e : r ≡ Term t new) where
-        stored : Stored J X Y Z now (var (get_or own k 0)) (keep (var (get_or own k 0)) (made J X now)) t new
-        stored = after_term a e
+    module _ {Y Z : List ℕ} {new : Mark} where
+      pub keeping_full : {row : Row} → Refused Tree J X Y Z now (keep (var (get_or own k 0)) (made J X now)) (row_number row) new →
+          After I W Y Z old new (app c (var_trees own)) (keep_case c own (made I W old)) (Err row)
+      keeping_full a = let s = on_no _ split (refused_stopped a) in record { says = record { grown = s.grown; makes = s.makes } }
 
-        pub keeping_small : t < TERMS
-        keeping_small = omega (arith, stored.there, stored.grown.good.room)
-
-        pub keeping_place : k + 1 < length node
-        keeping_place = omega (arith, g.narrow, l, h.long)
-
+      module _ {t : ℕ} (stored : Stored J X Y Z now (var (get_or own k 0)) (keep (var (get_or own k 0)) (made J X now)) t new) where
         taken : take (k + 1) (drop 1 (set node (k + 1) t)) ≡ take k (drop 1 node) ++ (t ∷ [])
         taken =
             let q : k + 1 ≡ 1 + k = omega arith in
@@ -116,7 +109,7 @@ module _ {I W : List ℕ} {old : Mark} {c : ℕ} {own J X node : List ℕ} {now 
                   ∙ ap (λ (vs : List ℕ). ahead (made J X now) (take k (drop 1 node)) (var_trees vs)) (sym (drop-cons own k 0 l))
                   ∙ h.trees;
               known = subst (Below new.terms) (sym taken)
-                  (below_snoc new.terms (take k (drop 1 node)) t (below_grown (take k (drop 1 node)) stored.grown.more h.known) stored.there);
+                  (below_snoc (take k (drop 1 node)) (below_grown (take k (drop 1 node)) stored.grown.more h.known) stored.there);
               head = get_or-set_other node (k + 1) 0 t 0 (λ z. omega arith) ∙ h.head;
               long = length-set node (k + 1) t ∙ h.long;
               near = omega arith;
@@ -136,20 +129,15 @@ module _ {I W : List ℕ} {old : Mark} {c : ℕ} {own J X node : List ℕ} {now 
     known_all : Below now.terms (take (length own) (drop 1 node))
     known_all = subst (λ (i : ℕ). Below now.terms (take i (drop 1 node))) all h.known
 
-    pub keeping_room : length own + 1 ≤ length node
+    keeping_room : length own + 1 ≤ length node
     keeping_room = omega (arith, g.narrow, h.long)
 
-    pub keeping_count : length own + 1 ≡ length (take (length own + 1) node)
-    keeping_count = sym (length-take-le (length own + 1) node keeping_room)
-
-    pub keeping_node : Good J X now × Node now.terms (take (length own + 1) node)
-    keeping_node = (
-      h.on.grown.good,
-      record {
-        narrow = omega (arith, length-take-le (length own + 1) node keeping_room, h.long, keeping_room);
-        shaped = subst (λ (w : List ℕ). Shaped now.terms w) (sym node_is) (is_app g.symbol known_all);
-      },
-    )
+    pub keeping_node : Node now.terms (take (length own + 1) node)
+    keeping_node =
+        record {
+          narrow = omega (arith, length-take-le (length own + 1) node keeping_room, h.long, keeping_room);
+          shaped = subst (λ (w : List ℕ). Shaped now.terms w) (sym node_is) (is_app g.symbol known_all);
+        }
 
     varied : args_of (made J X now) (take (length own) (drop 1 node)) ≡ var_trees own
     unfolding var_trees
@@ -170,24 +158,23 @@ module _ {I W : List ℕ} {old : Mark} {c : ℕ} {own J X node : List ℕ} {now 
         ∙ ap (λ (ts : Trees). keep (app c ts) (made J X now))
         (ap (λ (vs : List ℕ). ahead (made J X now) (take k (drop 1 node)) (var_trees vs)) (sym (drop_of_length-le own l)) ∙ h.trees))
 
-    pub keeping_done : (Y Z : List ℕ) (r : Kept) →
-        After J X Y Z now (tree_at (made J X now) (take (length own + 1) node)) (keep (tree_at (made J X now) (take (length own + 1) node)) (made J X now)) r →
-        After I W Y Z old (app c (var_trees own)) (keep_case c own (made I W old)) r
-    keeping_done Y Z r a = after_on r finish (subst (λ (t : Tree). After J X Y Z now t (keep t (made J X now)) r) tree_is a)
+    pub keeping_done : {Y Z : List ℕ} {new : Mark} {r : Result ℕ Row} →
+        After J X Y Z now new (tree_at (made J X now) (take (length own + 1) node)) (keep (tree_at (made J X now) (take (length own + 1) node)) (made J X now)) r →
+        After I W Y Z old new (app c (var_trees own)) (keep_case c own (made I W old)) r
+    keeping_done {Y} {Z} {new} {r} a = after_on Y Z new r finish (subst (λ (t : Tree). After J X Y Z now new t (keep t (made J X now)) r) tree_is a)
 
 -- The motive at a term ----------------------------------------------------------------------------------------------------------------------
 
-module _ {I W : List ℕ} {m : Mark} {x j : ℕ} {premises map memo : List ℕ} (g : Motived I W m x j premises) (s : Scratch map memo) {u : Tree} {L : Out Made Tree} {J X : List ℕ} {t : ℕ} {new : Mark} (d : Stored I W J X m u L t new) where
-  pub put_small : t + 1 ≤ TERMS
-  put_small = omega (arith, d.there, d.grown.good.room)
-
-  pub put_movable : (out : List ℕ) → length out ≡ length premises → Movable J X new (set map x (t + 1)) memo premises out × (j < new.terms)
-  put_movable out long = (
+-- term t is put for the variable
+module _ {I W : List ℕ} {m : Mark} {x j : ℕ} {premises : List ℕ} (g : Motived I W m x j premises) {u : Tree} {L : Out Made Tree} {J X : List ℕ} {t : ℕ} {new : Mark}
+    (d : Stored I W J X m u L t new) {map : List ℕ} (e : map ≡ only x t) where
+  pub put_movable : {memo out : List ℕ} → memo ≡ replicate TERMS 0 → length out ≡ length premises → Replaceables J X new map memo premises out × (j < new.terms)
+  put_movable zeros long = (
     record {
       good = d.grown.good;
-      bound = one_bound map x t new.terms s.map_zero g.small d.there;
-      blank = s.memo_zero;
-      known = below_grown premises d.grown.more g.known;
+      within = λ v. subst (λ (c : List ℕ). get_or c v 0 ≤ new.terms) (sym e) (one_bound x t new.terms g.small d.there v);
+      empty = zeros;
+      there = below_grown premises d.grown.more g.known;
       long = long;
     },
     grown_there d.grown j g.there,
@@ -195,54 +182,43 @@ module _ {I W : List ℕ} {m : Mark} {x j : ℕ} {premises map memo : List ℕ} 
 
   put_on : (F : (ℕ → Tree) → Tree → Trees → Act Made Hyp) (K : Out Made Hyp) →
       K ≡ then L (λ y U. F (single x y) (tree I W m j) (args_of (made I W m) premises) U) →
-      On I W m K J X new (F (replacement (made J X new) (set map x (t + 1))) (tree J X new j) (args_of (made J X new) premises) (made J X new))
-  put_on F K e =
-      on_is (on_ok _ (on_is (on_start g.good) e) (stored_went d))
-      (λ i. F ((ap (single x) (sym (stored_is d)) ∙ sym (one_cell (made J X new) map x t s.map_zero g.small)) i) (sym (grown_tree d.grown j g.there) i)
-      (sym (grown_args d.grown premises g.known) i) (made J X new))
+      On I W m K J X new (F (replacement (made J X new) map) (tree J X new j) (args_of (made J X new) premises) (made J X new))
+  put_on F K q =
+      let s : single x u ≡ replacement (made J X new) map =
+      ap (single x) (sym (stored_is d)) ∙ sym (one_cell (made J X new) x t g.small) ∙ ap (replacement (made J X new)) (sym e) in
+      on_is (on_ok _ (on_is (on_start g.good) q) (stored_went d))
+      (λ i. F (s i) (sym (grown_tree d.grown j g.there) i) (sym (grown_args d.grown premises g.known) i) (made J X new))
 
 -- at the constructor
-module _ {I W : List ℕ} {m : Mark} {c : ℕ} {own : List ℕ} {x j : ℕ} {premises map memo : List ℕ} (out : List ℕ) (k : Casing I W m c own × Motived I W m x j premises)
-    (s : Scratch map memo × (length out ≡ length premises)) (J X : List ℕ) (r : Kept) (a : After I W J X m (app c (var_trees own)) (keep_case c own (made I W m)) r) where
-  abbrev built : ℕ → Out Made Hyp
-  built sort = at_constructor (motive_in (made I W m) x sort j premises) c own (made I W m)
+module _ {I W : List ℕ} {m : Mark} {x j : ℕ} {premises : List ℕ} (k : Motived I W m x j premises) (sort c : ℕ) (own : List ℕ) where
+  abbrev built : Out Made Hyp
+  built = at_constructor (motive_in (made I W m) x sort j premises) c own (made I W m)
 
-  pub built_full : {row : ℕ} {new : Mark} → r ≡ Full row new → (sort : ℕ) → Stopped I W J X m (built sort) 60 row new
-  unfolding at_constructor
-  built_full e sort = on_no _ (on_start k.1.good) (refused_stopped (after_full a e))
-
-  module _ {t : ℕ} {new : Mark} (e : r ≡ Term t new) where
-    pub built_small : t + 1 ≤ TERMS
-    built_small = put_small k.1 s.0 (after_term a e)
-
-    pub built_movable : Movable J X new (set map x (t + 1)) memo premises out × (j < new.terms)
-    built_movable = put_movable k.1 s.0 (after_term a e) out s.1
-
-    pub built_moved : (Y Z out' : List ℕ) (o : Answer) →
-        MovedAs J X Y Z new (judgment_first (replacement (made J X new) (set map x (t + 1))) (tree J X new j) (args_of (made J X new) premises) (made J X new)) out' o →
-        (sort : ℕ) → MovedAs I W Y Z m (built sort) out' o
+  module _ {J X : List ℕ} {new : Mark} where
+    pub built_full : {r : ℕ} → Refused Tree I W J X m (keep_case c own (made I W m)) r new → Stopped I W J X m built 60 r new
     unfolding at_constructor
-    built_moved Y Z out' o b sort = moved_on Y Z out' o (put_on k.1 s.0 (after_term a e) judgment_first (built sort) refl) b
+    built_full s = on_no _ (on_start k.good) (refused_stopped s)
+
+    pub built_moved : {t : ℕ} → Stored I W J X m (app c (var_trees own)) (keep_case c own (made I W m)) t new → {map : List ℕ} → map ≡ only x t →
+        (Y Z out : List ℕ) (last : Mark) (r : Result ℕ Row) →
+        MovedBy J X Y Z new last (judgment_first (replacement (made J X new) map) (tree J X new j) (args_of (made J X new) premises) (made J X new)) out r →
+        MovedBy I W Y Z m last built out r
+    unfolding at_constructor
+    built_moved d e Y Z out last r b = moved_on Y Z out last r (put_on k d e judgment_first built refl) b
 
 -- at a variable
-module _ {I W : List ℕ} {m : Mark} {v : ℕ} {x j : ℕ} {premises map memo : List ℕ} (out : List ℕ) (k : Motived I W m x j premises × (v < VARIABLES))
-    (s : Scratch map memo × (length out ≡ length premises)) (J X : List ℕ) (r : Kept) (a : After I W J X m (var v) (keep (var v) (made I W m)) r) where
-  abbrev supposed : ℕ → Out Made Hyp
-  supposed sort = hypothesis_at (motive_in (made I W m) x sort j premises) v (made I W m)
+module _ {I W : List ℕ} {m : Mark} {x j : ℕ} {premises : List ℕ} (k : Motived I W m x j premises) (sort v : ℕ) where
+  abbrev supposed : Out Made Hyp
+  supposed = hypothesis_at (motive_in (made I W m) x sort j premises) v (made I W m)
 
-  pub supposed_full : {row : ℕ} {new : Mark} → r ≡ Full row new → (sort : ℕ) → Stopped I W J X m (supposed sort) 60 row new
-  unfolding hypothesis_at
-  supposed_full e sort = on_no _ (on_start k.0.good) (refused_stopped (after_full a e))
+  module _ {J X : List ℕ} {new : Mark} where
+    pub supposed_full : {r : ℕ} → Refused Tree I W J X m (keep (var v) (made I W m)) r new → Stopped I W J X m supposed 60 r new
+    unfolding hypothesis_at
+    supposed_full s = on_no _ (on_start k.good) (refused_stopped s)
 
-  module _ {t : ℕ} {new : Mark} (e : r ≡ Term t new) where
-    pub supposed_small : t + 1 ≤ TERMS
-    supposed_small = put_small k.0 s.0 (after_term a e)
-
-    pub supposed_movable : Movable J X new (set map x (t + 1)) memo premises out × (j < new.terms)
-    supposed_movable = put_movable k.0 s.0 (after_term a e) out s.1
-
-    pub supposed_moved : (Y Z out' : List ℕ) (o : Answer) →
-        MovedAs J X Y Z new (premises_first (replacement (made J X new) (set map x (t + 1))) (tree J X new j) (args_of (made J X new) premises) (made J X new)) out' o →
-        (sort : ℕ) → MovedAs I W Y Z m (supposed sort) out' o
+    pub supposed_moved : {t : ℕ} → Stored I W J X m (var v) (keep (var v) (made I W m)) t new → {map : List ℕ} → map ≡ only x t →
+        (Y Z out : List ℕ) (last : Mark) (r : Result ℕ Row) →
+        MovedBy J X Y Z new last (premises_first (replacement (made J X new) map) (tree J X new j) (args_of (made J X new) premises) (made J X new)) out r →
+        MovedBy I W Y Z m last supposed out r
     unfolding hypothesis_at premises_first
-    supposed_moved Y Z out' o b sort = moved_on Y Z out' o (put_on k.0 s.0 (after_term a e) premises_first (supposed sort) refl) b
+    supposed_moved d e Y Z out last r b = moved_on Y Z out last r (put_on k d e premises_first supposed refl) b

@@ -1,4 +1,4 @@
--- The form `induct` behind its variable and hypotheses, and its two spellings. Assumes nothing.
+-- The form `induct` behind its variable and hypotheses. Assumes nothing.
 use mathlib.Core.Path.{◌≡◌, sym, ap, ◌∙◌, subst}
 use mathlib.Core.Bool.{false, false≢true}
 use mathlib.Core.List.{List, []}
@@ -7,7 +7,7 @@ use native.Mathlib.Omega.{arith}
 use lib.Dec.{eqb}
 use lib.ListN.{length, take, drop, replicate}
 use lib.Seq.{length-take-le}
-use Rattle.rules.specs.Limits.{FACTS, FACTWORDS, RULEWORDS}
+use Rattle.rules.specs.Limits.{VARIABLES, FACTS, RULEWORDS}
 use Rattle.rules.specs.Out.{Out, ok, then, ask}
 use Rattle.rules.specs.Sexp.{Sexp, cons, count, items}
 use Rattle.rules.specs.Find.{Set, rising}
@@ -33,21 +33,22 @@ use Rattle.terms.specs.On.{Went, Stopped, On, on_start, on_is, on_ok, on_no, on_
 use Rattle.terms.specs.Laws.Growth.{made_length, grown_tree, grown_there}
 use Rattle.terms.specs.Laws.Sets.{holds_zero}
 use Rattle.state.specs.declared.sizes.Sizes.{Sizes}
-use Rattle.state.specs.Held.{names}
+use Rattle.state.specs.Held.{Names}
+use Rattle.state.specs.Rows.{cell}
+use Rattle.state.specs.VarLaws.{vars_long, var_sort_is}
 use Rattle.state.specs.RowTables.{tabled_long}
 use Rattle.state.specs.FactLaws.{facts_tabled}
 use Rattle.state.specs.Members.{rising_under, rising_empty}
-use Rattle.reading.specs.declared.apart.Out.{Out as Answer}
-use Rattle.reading.specs.declared.apart.Out.TheVariants.{Ok, No}
-use Rattle.referring.specs.declared.derived.Derived.{Derived}
-use Rattle.referring.specs.declared.derived.Derived.TheVariants as derived
 use Rattle.reading.specs.Given.{ReadsItem}
 use Rattle.reading.specs.Answers.{TermRead}
-use Rattle.reading.specs.Apart.{ReadAs}
-use Rattle.referring.specs.Derived.{DerivedRead, DerivedAs, alone}
+use Rattle.questions.specs.declared.Question.{Question}
+use Rattle.std.specs.Prelude.{Result, Ok, Err}
+use Rattle.referring.specs.declared.support.Derived.{Derived}
+use Rattle.referring.specs.Derived.{DerivedRead, DerivedBy, alone}
 use Rattle.referring.specs.Laws.Refers.{refers_on}
-use Rattle.induction.specs.Inducing.{Below, PassedAs, motive_in, Motived, judgment_cells, on_motive, MotiveItems, InductForm}
-use Rattle.induction.proofs.Moves.{below_grown}
+use Rattle.referring.specs.Substitutes.{Below}
+use Rattle.referring.specs.Laws.Substitutes.{below_grown}
+use Rattle.induction.specs.Inducing.{motive_in, Motived, judgment_cells, on_motive, MotiveItems, InductForm}
 use Rattle.induction.proofs.CaseNames.{walk_behind}
 use Rattle.induction.proofs.Inducts.{cells_are, cells_below}
 use Rattle.referring.specs.Laws.Sounds.{grown_grows}
@@ -74,9 +75,9 @@ on_is_then S x hs y z U =
 
 -- Behind the variable -----------------------------------------------------------------------------------------------------------------------
 
-module _ {theory goals text symbols ins vars defs facts lists : List ℕ} {n : Sizes} {I W : List ℕ} {m : Mark} {x : ℕ} {hyps cells : List ℕ}
-    (g : InductForm theory goals text symbols ins vars defs facts lists n I W m x hyps cells) where
-  abbrev pub form_reads : ReadsItem (names theory goals text symbols ins vars defs) n I W m cells
+module _ {K : Names} {facts footings lists : List ℕ} {n : Sizes} {I W : List ℕ} {m : Mark} {x : ℕ} {hyps cells : List ℕ}
+    (g : InductForm K facts footings lists n I W m x hyps cells) where
+  abbrev pub form_reads : ReadsItem K n I W m cells
   form_reads = record { S = g.S; x = g.y; ys = cons g.z g.zs; reads = g.refers.reads; holds = g.items }
 
   pub form_cell : 0 < length cells
@@ -88,53 +89,60 @@ module _ {theory goals text symbols ins vars defs facts lists : List ℕ} {n : S
   hs_known : All (λ h. h < n.facts) (rising FACTS (holds hyps))
   hs_known = subst (All (λ h. h < n.facts)) (sym hs_under) (rising_all_of (length g.S.facts) (holds hyps) (λ v l e. omega (arith, l, g.refers.recorded.many)))
 
-  pub form_facts : (out : List ℕ) → length out ≡ FACTS → (length facts ≡ 6 * FACTS) × (length hyps ≡ FACTWORDS) × (length out ≡ FACTS)
-  form_facts out e = (tabled_long (facts_tabled g.refers.recorded), g.long, e)
+  pub form_facts : length facts ≡ 6 * FACTS
+  form_facts = tabled_long (facts_tabled g.refers.recorded)
 
-  module _ (J X : List ℕ) (r : Answer)
-      (a : (h : ReadsItem (names theory goals text symbols ins vars defs) n I W m cells) → ReadAs I W J X m (judgment h.S h.x (made I W m)) r) where
-    begun : On I W m (induct_on g.S x (rising (length g.S.facts) (holds hyps)) g.y g.z (made I W m)) I W m
-        (then (judgment g.S g.y (made I W m)) (λ j B. then (items 41 g.z B)
-        (λ cs D. then (on_motive g.S (motive g.S x (rising (length g.S.facts) (holds hyps)) j) cs D) (λ w E. ok (fact (rising (length g.S.facts) (holds hyps)) j) E))))
-    begun = on_is (on_start g.refers.reads.good) (on_is_then g.S x (rising (length g.S.facts) (holds hyps)) g.y g.z (made I W m))
+  pub form_sorts : (length K.vars ≡ 4 * VARIABLES) × (x < VARIABLES)
+  form_sorts = (
+    vars_long g.refers.reads.spelling.vars.stand,
+    omega (arith, g.variable_known, g.refers.reads.spelling.vars.stand.many, g.refers.reads.spelling.vars.stand.few),
+  )
 
-    pub form_stopped : {q d : ℕ} {new : Mark} → r ≡ No q d new →
-        Stopped I W J X m (induct_on g.S x (rising (length g.S.facts) (holds hyps)) g.y g.z (made I W m)) q d new
-    form_stopped e = on_no _ begun (subst (ReadAs I W J X m (judgment g.S g.y (made I W m))) e (a form_reads))
+  abbrev pub wanted : Out Made Fact
+  wanted = induct_on g.S x (rising (length g.S.facts) (holds hyps)) g.y g.z (made I W m)
 
-    module _ {j : ℕ} {new : Mark} (e : r ≡ Ok j new) where
+  begun : On I W m wanted I W m
+      (then (judgment g.S g.y (made I W m)) (λ j B. then (items 41 g.z B)
+      (λ cs D. then (on_motive g.S (motive g.S x (rising (length g.S.facts) (holds hyps)) j) cs D) (λ w E. ok (fact (rising (length g.S.facts) (holds hyps)) j) E))))
+  begun = on_is (on_start g.refers.reads.good) (on_is_then g.S x (rising (length g.S.facts) (holds hyps)) g.y g.z (made I W m))
+
+  module _ (J X : List ℕ) (new : Mark) where
+    pub form_stopped : {q d : ℕ} → ((h : ReadsItem K n I W m cells) → Stopped I W J X m (judgment h.S h.x (made I W m)) q d new) → Stopped I W J X m wanted q d new
+    form_stopped a = on_no _ begun (a form_reads)
+
+    module _ {j : ℕ} (a : (h : ReadsItem K n I W m cells) → TermRead I W J X m (judgment h.S h.x (made I W m)) j new) where
       pub read : TermRead I W J X m (judgment g.S g.y (made I W m)) j new
-      read = subst (ReadAs I W J X m (judgment g.S g.y (made I W m))) e (a form_reads)
+      read = a form_reads
 
-      judged : On I W m (induct_on g.S x (rising (length g.S.facts) (holds hyps)) g.y g.z (made I W m)) J X new
+      judged : On I W m wanted J X new
           (then (items 41 g.z (made J X new))
           (λ cs D. then (on_motive g.S (motive g.S x (rising (length g.S.facts) (holds hyps)) (tree J X new j)) cs D)
           (λ w E. ok (fact (rising (length g.S.facts) (holds hyps)) (tree J X new j)) E)))
       judged = on_ok _ begun read.went
 
       module _ {next : ℕ} (u : next ≡ behind 0 (item_at cells 0)) where
-        second : Walk text cells next (cons g.z g.zs)
+        second : Walk K.text cells next (cons g.z g.zs)
         second = walk_behind (walk_start g.items) u
 
         pub form_next : next < length cells
         form_next = at_inside second.here
 
         module _ {thing : Item} (f : thing ≡ item_at cells next) where
-          pub form_atom_lem : {p : ℕ} → thing ≡ Atom p → Stopped I W J X m (induct_on g.S x (rising (length g.S.facts) (holds hyps)) g.y g.z (made I W m)) 41 0 new
+          pub form_atom_lem : {p : ℕ} → thing ≡ Atom p → Stopped I W J X m wanted 41 0 new
           unfolding items
           form_atom_lem q = on_stop _ judged (ap (λ (z : Sexp). items 41 z (made J X new)) (walk_atom second f q).is)
 
           module _ {from end : ℕ} (q : thing ≡ Part from end) where
-            pub form_list : ListIs text cells g.z from end
+            pub form_list : ListIs K.text cells g.z from end
             form_list = walk_list second f q
 
-            itemed : On I W m (induct_on g.S x (rising (length g.S.facts) (holds hyps)) g.y g.z (made I W m)) J X new
+            itemed : On I W m wanted J X new
                 (then (on_motive g.S (motive g.S x (rising (length g.S.facts) (holds hyps)) (tree J X new j)) form_list.items (made J X new))
                 (λ w E. ok (fact (rising (length g.S.facts) (holds hyps)) (tree J X new j)) E))
             unfolding items
             itemed = on_pure _ judged (ap (λ (z : Sexp). items 41 z (made J X new)) form_list.is)
 
-            module _ (out : List ℕ) (width : ℕ) (long : length out ≡ FACTS)
+            module _ (out : List ℕ) {width : ℕ} (long : length out ≡ FACTS)
                 (h : (width ≤ FACTS) × (take width out ≡ judgment_cells facts (rising FACTS (holds hyps)))) where
               premises_are : args_of (made J X new) (take width out) ≡ judgments_at g.S.facts (rising (length g.S.facts) (holds hyps))
               premises_are =
@@ -146,7 +154,7 @@ module _ {theory goals text symbols ins vars defs facts lists : List ℕ} {n : S
               form_motived =
                   record {
                     good = read.went.grown.good;
-                    small = omega (arith, g.variable_known, g.refers.reads.spelling.vars.stand.many, g.refers.reads.spelling.vars.stand.few);
+                    small = form_sorts.1;
                     there = read.there;
                     known = subst (Below new.terms) (sym h.1)
                         (below_grown (judgment_cells facts (rising FACTS (holds hyps))) (omega (arith, made_length I W m, read.went.grown.more))
@@ -154,58 +162,61 @@ module _ {theory goals text symbols ins vars defs facts lists : List ℕ} {n : S
                     few = omega (arith, length-take-le width out (omega (arith, h.0, long)), h.0);
                   }
 
-              abbrev pub form_motive : MotiveItems goals text symbols ins vars facts lists n J X new x j (take width out) (take (end - from) (drop from cells))
+              abbrev pub form_motive : MotiveItems K facts footings lists n J X new x j (take width out) (take (end - from) (drop from cells))
               form_motive =
                   record {
                     S = g.S;
-                    theory = theory;
-                    defs = defs;
-                    footings = g.footings;
                     xs = form_list.items;
                     refers = refers_on g.refers (grown_grows read.went.grown) read.went.grown.good;
                     motived = form_motived;
                     items = form_list.holds;
                   }
 
-              moved : On I W m (induct_on g.S x (rising (length g.S.facts) (holds hyps)) g.y g.z (made I W m)) J X new
-                  (then (on_motive g.S (motive_in (made J X new) x (sort_of_var g.S.vars x) j (take width out)) form_list.items (made J X new))
-                  (λ w E. ok (fact (rising (length g.S.facts) (holds hyps)) (tree J X new j)) E))
-              moved =
-                  on_is itemed
-                  (λ i. then (on_motive g.S
-                  (record { variable = x; sort = sort_of_var g.S.vars x; judgment = tree J X new j; premises = sym premises_are i }) form_list.items (made J X new))
-                  (λ w E. ok (fact (rising (length g.S.facts) (holds hyps)) (tree J X new j)) E))
+              module _ {sort : ℕ} (s : sort ≡ cell 4 K.vars x 0) where
+                moved : On I W m wanted J X new
+                    (then (on_motive g.S (motive_in (made J X new) x sort j (take width out)) form_list.items (made J X new))
+                    (λ w E. ok (fact (rising (length g.S.facts) (holds hyps)) (tree J X new j)) E))
+                moved =
+                    on_is itemed
+                    (λ i. then (on_motive g.S
+                    (record {
+                      variable = x;
+                      sort = sym (s ∙ var_sort_is g.refers.reads.spelling.vars.stand x) i;
+                      judgment = tree J X new j;
+                      premises = sym premises_are i;
+                    }) form_list.items (made J X new))
+                    (λ w E. ok (fact (rising (length g.S.facts) (holds hyps)) (tree J X new j)) E))
 
-              module _ (Y Z : List ℕ) (o : Answer)
-                  (p : PassedAs J X Y Z new (on_motive g.S (motive_in (made J X new) x (sort_of_var g.S.vars x) j (take width out)) form_list.items (made J X new)) o) where
-                pub form_refused : {k d : ℕ} {last : Mark} → o ≡ No k d last →
-                    Stopped I W Y Z m (induct_on g.S x (rising (length g.S.facts) (holds hyps)) g.y g.z (made I W m)) k d last
-                form_refused w =
-                    on_no _ moved
-                    (subst (PassedAs J X Y Z new (on_motive g.S (motive_in (made J X new) x (sort_of_var g.S.vars x) j (take width out)) form_list.items (made J X new))) w p)
+                module _ (Y Z : List ℕ) (last : Mark) where
+                  pub form_refused : {k d : ℕ} →
+                      ((h : MotiveItems K facts footings lists n J X new x j (take width out) (take (end - from) (drop from cells))) →
+                      Stopped J X Y Z new (on_motive h.S (motive_in (made J X new) x sort j (take width out)) h.xs (made J X new)) k d last) →
+                      Stopped I W Y Z m wanted k d last
+                  form_refused p = on_no _ moved (p form_motive)
 
-                pub form_derived : {k : ℕ} {last : Mark} → o ≡ Ok k last →
-                    DerivedRead Fact I W Y Z m g.S (induct_on g.S x (rising (length g.S.facts) (holds hyps)) g.y g.z (made I W m)) alone hyps (replicate RULEWORDS 0) j 0 last
-                form_derived {k} {last} w =
-                    let d : Went J X Y Z new (on_motive g.S (motive_in (made J X new) x (sort_of_var g.S.vars x) j (take width out)) form_list.items (made J X new)) tt last =
-                    subst (PassedAs J X Y Z new (on_motive g.S (motive_in (made J X new) x (sort_of_var g.S.vars x) j (take width out)) form_list.items (made J X new))) w p in
-                    record {
-                      went = on_done (on_is (on_ok _ moved d)
-                          (λ i. ok (record {
-                            judgment = sym (grown_tree d.grown j read.there) i;
-                            hyps = rising (length g.S.facts) (holds hyps);
-                            assumed = false;
-                            premises = none;
-                            general = [];
-                            footing = sym (rising_empty (length g.S.theory.rules) (holds (replicate RULEWORDS 0)) (λ v. ap (λ (a : Set). a v) (holds_zero RULEWORDS))) i;
-                          }) (made Y Z last)));
-                      there = grown_there d.grown j read.there;
-                      earlier = g.earlier;
-                      known = λ v z. absurd (false≢true (sym (ap (λ (a : Set). a v) (holds_zero RULEWORDS)) ∙ z));
-                    }
+                  pub form_derived :
+                      ((h : MotiveItems K facts footings lists n J X new x j (take width out) (take (end - from) (drop from cells))) →
+                      Went J X Y Z new (on_motive h.S (motive_in (made J X new) x sort j (take width out)) h.xs (made J X new)) tt last) →
+                      DerivedRead Fact I W Y Z m g.S wanted alone hyps (replicate RULEWORDS 0) j 0 last
+                  form_derived p =
+                      let d : Went J X Y Z new (on_motive g.S (motive_in (made J X new) x sort j (take width out)) form_list.items (made J X new)) tt last = p form_motive in
+                      record {
+                        went = on_done (on_is (on_ok _ moved d)
+                            (λ i. ok (record {
+                              judgment = sym (grown_tree d.grown j read.there) i;
+                              hyps = rising (length g.S.facts) (holds hyps);
+                              assumed = false;
+                              premises = none;
+                              general = [];
+                              footing = sym (rising_empty (length g.S.theory.rules) (holds (replicate RULEWORDS 0)) (λ v. ap (λ (a : Set). a v) (holds_zero RULEWORDS))) i;
+                            }) (made Y Z last)));
+                        there = grown_there d.grown j read.there;
+                        earlier = g.earlier;
+                        known = λ v z. absurd (false≢true (sym (ap (λ (a : Set). a v) (holds_zero RULEWORDS)) ∙ z));
+                      }
 
 -- what an answer says behind what went before
-pub derived_on : {I W J X : List ℕ} {old now : Mark} {K L : Out Made Fact} (S : State) (Y Z hyps footing : List ℕ) (r : Derived) → On I W old K J X now L →
-    DerivedAs Fact J X Y Z now S L alone hyps footing r → DerivedAs Fact I W Y Z old S K alone hyps footing r
-derived_on S Y Z hyps footing (derived.Ok j k new) o d = record { went = on_went o d.went; there = d.there; earlier = d.earlier; known = d.known }
-derived_on S Y Z hyps footing (derived.No q k new) o s = on_stopped o s
+pub derived_on : {I W J X : List ℕ} {old now : Mark} {K L : Out Made Fact} (S : State) (Y Z : List ℕ) (new : Mark) (r : Result Derived Question) → On I W old K J X now L →
+    DerivedBy Fact J X Y Z now new S L alone r → DerivedBy Fact I W Y Z old new S K alone r
+derived_on S Y Z new (Ok f) o d = record { went = on_went o d.went; there = d.there; earlier = d.earlier; known = d.known }
+derived_on S Y Z new (Err q) o s = on_stopped o s

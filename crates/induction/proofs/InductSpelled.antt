@@ -1,12 +1,12 @@
 -- The two spellings of `induct`: with hypotheses and without. Assumes nothing.
 use mathlib.Core.Path.{◌≡◌, sym, ap, ◌∙◌, subst}
 use mathlib.Core.Bool.{true, false, false≢true}
-use Rattle.std.specs.Prelude.{Some as some, None as nothing, Option}
+use Rattle.std.specs.Prelude.{Some as some, None as nothing, Option, Result}
 use mathlib.Core.List.{List, []}
 use Prim.Native.Nat.{ℕ, ◌-◌, ◌<◌, ◌≤◌}
 use native.Mathlib.Omega.{arith}
 use lib.ListN.{length, take, drop, replicate, length-replicate}
-use Rattle.rules.specs.Limits.{FACTWORDS, RULEWORDS}
+use Rattle.rules.specs.Limits.{FACTWORDS}
 use Rattle.rules.specs.Out.{Out, ok, refuse, then, found}
 use Rattle.rules.specs.Sexp.{Sexp, Sexps, atom, list, cons, item, rest, items}
 use Rattle.rules.specs.Find.{Set, has, rising}
@@ -17,8 +17,11 @@ use Rattle.rules.specs.Induct.{induct_on, induct, induct_with}
 use Rattle.rules.specs.Laws.Sexp.{rest_item}
 use Rattle.rules.specs.Laws.Theory.{All}
 use Rattle.rules.specs.Laws.Rising.{rising_rises, rising_all_of, has_all}
+use Rattle.questions.specs.declared.Question.{Question}
+use Rattle.questions.specs.declared.Question.TheVariants.{Binding}
+use Rattle.questions.specs.Numbers.{number_of, detail_of}
 use Rattle.sexp.specs.Encode.{encodes}
-use Rattle.sexp.specs.Items.{Holds, Items, item_at, behind, place}
+use Rattle.sexp.specs.Items.{Holds, item_at, behind, place}
 use Rattle.sexp.specs.ItemLaws.{at_inside}
 use Rattle.sexp.specs.WalkLaws.{Walk, walk_rest, rest_walk}
 use Rattle.sexp.specs.FoundLaws.{found_at, found_missing}
@@ -29,23 +32,17 @@ use Rattle.terms.specs.Sets.{holds}
 use Rattle.terms.specs.On.{Stopped, On, on_start, on_is, on_pure, on_stop, on_found_some, on_found_none}
 use Rattle.terms.specs.Laws.Sets.{holds_zero}
 use Rattle.state.specs.declared.sizes.Sizes.{Sizes}
-use Rattle.state.specs.Held.{names, VarsHeld}
+use Rattle.state.specs.Held.{Names, VarsHeld}
 use Rattle.state.specs.Rows.{SomeVars}
 use Rattle.state.specs.Members.{rising_empty, rises_rising}
-use Rattle.referring.specs.declared.derived.Derived.{Derived}
-use Rattle.reading.specs.declared.apart.Listed.{Listed}
-use Rattle.reading.specs.declared.apart.Listed.TheVariants as listed
 use Rattle.reading.specs.Items.{FirstItem, variable_in, variable_found}
 use Rattle.reading.specs.Given.{FactsItem}
 use Rattle.reading.specs.Answers.{HypsRead}
-use Rattle.reading.specs.Apart.{HypsAs}
-use Rattle.referring.specs.Derived.{FactForm, Blank, DerivedAs, alone}
-use Rattle.induction.specs.Inducing.{IDS, Scratch, InductForm}
+use Rattle.referring.specs.declared.support.Derived.{Derived}
+use Rattle.referring.specs.Derived.{FactForm, DerivedBy, alone}
+use Rattle.induction.specs.Inducing.{SubjectItems, InductForm}
 use Rattle.induction.proofs.CaseNames.{walk_behind, variable_below}
 use Rattle.induction.proofs.InductForms.{derived_on}
-
-pub blank_scratch : {map memo hyps footing : List ℕ} (ids : List ℕ) → Blank map memo hyps footing × (ids ≡ replicate IDS 0) → Scratch map memo × (ids ≡ replicate IDS 0)
-blank_scratch ids b = (record { map_zero = b.0.map_zero; memo_zero = b.0.memo_zero }, b.1)
 
 -- a list of hypotheses rises
 rising_again : (n : ℕ) (a : Set) → rising n a ≡ rising n (has (rising n a))
@@ -65,13 +62,38 @@ listed_rises S (list xs) hs U e = ok_rises (length S.facts) (hyp_each is_plain S
 
 -- The variable -----------------------------------------------------------------------------------------------------------------------------
 
-module _ {theory goals text symbols ins vars defs facts footings lists : List ℕ} {n : Sizes} {I W : List ℕ} {m : Mark} {cells : List ℕ} {least : ℕ}
-    (g : FactForm (names theory goals text symbols ins vars defs) facts footings lists n I W m cells least) (l : 5 ≤ least) where
-  pub spelled_items : Items cells
-  spelled_items = (g.xs, g.holds.cells)
+module _ {goals text vars : List ℕ} {count : ℕ} {cells : List ℕ} (g : SubjectItems goals text vars count cells) where
+  module _ {at : ℕ} (a : (ys : Sexps) → cells ≡ encodes ys → at ≡ place ys 2) where
+    pub subject_walk : Walk text cells at (rest g.xs 2)
+    subject_walk = rest_walk g.holds 2 at (a g.xs g.holds.cells)
 
-  third : rest g.xs 2 ≡ cons (item g.xs 2) (rest g.xs 3)
-  third = rest_item g.xs 2 (omega (arith, g.many, l))
+    at_subject : Walk text cells at (cons (item g.xs 2) (rest g.xs 3))
+    at_subject = subst (λ (z : Sexps). Walk text cells at z) (rest_item g.xs 2 (omega (arith, g.many))) subject_walk
+
+    pub subject_high : at ≤ length cells
+    subject_high = at_subject.here.high
+
+    pub subject_asks : FirstItem text (take (length cells - at) (drop at cells)) × SomeVars goals text vars count
+    subject_asks = (record { x = item g.xs 2; ys = rest g.xs 3; holds = walk_rest at_subject }, (g.S.vars, g.held))
+
+    module _ {r : Option ℕ}
+        (b : (vs : List Var) (x : Sexp) (ys : Sexps) → VarsHeld goals text vars count vs → Holds text (take (length cells - at) (drop at cells)) (cons x ys) →
+        r ≡ (variable_in vs x)) where
+      told : r ≡ (variable_in g.S.vars (item g.xs 2))
+      told = b g.S.vars (item g.xs 2) (rest g.xs 3) g.held (walk_rest at_subject)
+
+      pub subject_unknown : r ≡ nothing → variable_in g.S.vars (item g.xs 2) ≡ nothing
+      subject_unknown e = found_missing (variable_in g.S.vars (item g.xs 2)) r told e
+
+      pub subject_known : {x : ℕ} → r ≡ some x → variable_in g.S.vars (item g.xs 2) ≡ some x
+      subject_known {x} e = found_at (variable_in g.S.vars (item g.xs 2)) r x told e
+
+-- The form -----------------------------------------------------------------------------------------------------------------------------------
+
+module _ {K : Names} {facts footings lists : List ℕ} {n : Sizes} {I W : List ℕ} {m : Mark} {cells : List ℕ} {least : ℕ}
+    (g : FactForm K facts footings lists n I W m cells least) (l : 5 ≤ least) where
+  abbrev pub spelled_subject : SubjectItems K.goals K.text K.vars n.vars cells
+  spelled_subject = record { S = g.S; xs = g.xs; held = g.refers.reads.spelling.vars; holds = g.holds; many = omega (arith, g.many, l) }
 
   fourth : rest g.xs 3 ≡ cons (item g.xs 3) (rest g.xs 4)
   fourth = rest_item g.xs 3 (omega (arith, g.many, l))
@@ -79,174 +101,163 @@ module _ {theory goals text symbols ins vars defs facts footings lists : List �
   fifth : rest g.xs 4 ≡ cons (item g.xs 4) (rest g.xs 5)
   fifth = rest_item g.xs 4 (omega (arith, g.many, l))
 
-  module _ {at : ℕ} (a : (ys : Sexps) → cells ≡ encodes ys → at ≡ place ys 2) where
-    pub at_variable : Walk text cells at (cons (item g.xs 2) (rest g.xs 3))
-    at_variable = subst (λ (z : Sexps). Walk text cells at z) third (rest_walk g.holds 2 at (a g.xs g.holds.cells))
+  begin : On I W m (induct g.S g.xs (made I W m)) I W m
+      (then (found 36 (variable_in g.S.vars (item g.xs 2)) (made I W m)) (λ x U. induct_on g.S x [] (item g.xs 3) (item g.xs 4) U))
+  unfolding induct
+  begin =
+      on_is (on_start g.refers.reads.good)
+      (ap (λ (o : Out Made ℕ). then o (λ x U. induct_on g.S x [] (item g.xs 3) (item g.xs 4) U)) (variable_found 36 g.S (item g.xs 2) (made I W m)))
 
-    pub variable_high : at ≤ length cells
-    variable_high = at_variable.here.high
+  begin_with : On I W m (induct_with g.S g.xs (made I W m)) I W m
+      (then (found 36 (variable_in g.S.vars (item g.xs 2)) (made I W m))
+      (λ x U. then (hyp_list is_plain g.S (item g.xs 3) U) (λ hs N. induct_on g.S x hs (item g.xs 4) (item g.xs 5) N)))
+  unfolding induct_with
+  begin_with =
+      on_is (on_start g.refers.reads.good)
+      (ap (λ (o : Out Made ℕ). then o (λ x U. then (hyp_list is_plain g.S (item g.xs 3) U) (λ hs N. induct_on g.S x hs (item g.xs 4) (item g.xs 5) N)))
+      (variable_found 36 g.S (item g.xs 2) (made I W m)))
 
-    pub variable_cell : at < length cells
-    variable_cell = at_inside at_variable.here
+  module _ {q : Question} (e : (h : SubjectItems K.goals K.text K.vars n.vars cells) → (variable_in h.S.vars (item h.xs 2) ≡ nothing) × (q ≡ Binding)) where
+    binding : q ≡ Binding
+    binding = (e spelled_subject).1
 
-    pub variable_asks : FirstItem text (take (length cells - at) (drop at cells)) × SomeVars goals text vars n.vars
-    variable_asks =
-        (record { x = item g.xs 2; ys = rest g.xs 3; holds = walk_rest at_variable }, (g.S.vars, g.refers.reads.spelling.vars))
+    pub spelled_unknown : Stopped I W I W m (induct g.S g.xs (made I W m)) (number_of q) (detail_of q) m
+    spelled_unknown =
+        subst (λ (p : Question). Stopped I W I W m (induct g.S g.xs (made I W m)) (number_of p) (detail_of p) m) (sym binding)
+        (on_found_none _ 36 begin (e spelled_subject).0)
 
-    module _ {r : Option ℕ} (b : (vs : List Var) (x : Sexp) (ys : Sexps) → VarsHeld goals text vars n.vars vs → Holds text (take (length cells - at) (drop at cells)) (cons x ys) →
-        r ≡ (variable_in vs x)) where
-      told : r ≡ (variable_in g.S.vars (item g.xs 2))
-      told = b g.S.vars (item g.xs 2) (rest g.xs 3) g.refers.reads.spelling.vars (walk_rest at_variable)
+    pub spelled_unknown_with : Stopped I W I W m (induct_with g.S g.xs (made I W m)) (number_of q) (detail_of q) m
+    spelled_unknown_with =
+        subst (λ (p : Question). Stopped I W I W m (induct_with g.S g.xs (made I W m)) (number_of p) (detail_of p) m) (sym binding)
+        (on_found_none _ 36 begin_with (e spelled_subject).0)
 
-      begin : On I W m (induct g.S g.xs (made I W m)) I W m
-          (then (found 36 (variable_in g.S.vars (item g.xs 2)) (made I W m)) (λ x U. induct_on g.S x [] (item g.xs 3) (item g.xs 4) U))
-      unfolding induct
-      begin =
-          on_is (on_start g.refers.reads.good)
-          (ap (λ (o : Out Made ℕ). then o (λ x U. induct_on g.S x [] (item g.xs 3) (item g.xs 4) U)) (variable_found 36 g.S (item g.xs 2) (made I W m)))
+  module _ {x at : ℕ}
+      (e : (h : SubjectItems K.goals K.text K.vars n.vars cells) → (variable_in h.S.vars (item h.xs 2) ≡ some x) × Walk K.text cells at (rest h.xs 2)) where
+    named : variable_in g.S.vars (item g.xs 2) ≡ some x
+    named = (e spelled_subject).0
 
-      begin_with : On I W m (induct_with g.S g.xs (made I W m)) I W m
-          (then (found 36 (variable_in g.S.vars (item g.xs 2)) (made I W m))
-          (λ x U. then (hyp_list is_plain g.S (item g.xs 3) U) (λ hs N. induct_on g.S x hs (item g.xs 4) (item g.xs 5) N)))
-      unfolding induct_with
-      begin_with =
-          on_is (on_start g.refers.reads.good)
-          (ap (λ (o : Out Made ℕ). then o (λ x U. then (hyp_list is_plain g.S (item g.xs 3) U) (λ hs N. induct_on g.S x hs (item g.xs 4) (item g.xs 5) N)))
-          (variable_found 36 g.S (item g.xs 2) (made I W m)))
+    pub spelled_known : x < length g.S.vars
+    spelled_known = variable_below g.S.vars (item g.xs 2) x named
 
-      pub spelled_unknown : r ≡ nothing → Stopped I W I W m (induct g.S g.xs (made I W m)) 36 0 m
-      spelled_unknown e = on_found_none _ 36 begin (found_missing (variable_in g.S.vars (item g.xs 2)) r told e)
+    at_third : Walk K.text cells at (cons (item g.xs 2) (rest g.xs 3))
+    at_third = subst (λ (z : Sexps). Walk K.text cells at z) (rest_item g.xs 2 (omega (arith, g.many, l))) (e spelled_subject).1
 
-      pub spelled_unknown_with : r ≡ nothing → Stopped I W I W m (induct_with g.S g.xs (made I W m)) 36 0 m
-      spelled_unknown_with e = on_found_none _ 36 begin_with (found_missing (variable_in g.S.vars (item g.xs 2)) r told e)
+    pub third_cell : at < length cells
+    third_cell = at_inside at_third.here
 
-      module _ {x : ℕ} (e : r ≡ some x) where
-        named : variable_in g.S.vars (item g.xs 2) ≡ some x
-        named = found_at (variable_in g.S.vars (item g.xs 2)) r x told e
+    module _ {next : ℕ} (u : next ≡ behind at (item_at cells at)) where
+      pub at_fourth : Walk K.text cells next (cons (item g.xs 3) (rest g.xs 4))
+      at_fourth = subst (λ (z : Sexps). Walk K.text cells next z) fourth (walk_behind at_third u)
 
-        pub spelled_known : x < length g.S.vars
-        spelled_known = variable_below g.S.vars (item g.xs 2) x named
+      pub fourth_high : next ≤ length cells
+      fourth_high = at_fourth.here.high
 
-        module _ {next : ℕ} (u : next ≡ behind at (item_at cells at)) where
-          pub at_fourth : Walk text cells next (cons (item g.xs 3) (rest g.xs 4))
-          at_fourth = subst (λ (z : Sexps). Walk text cells next z) fourth (walk_behind at_variable u)
+      pub fourth_cell : next < length cells
+      fourth_cell = at_inside at_fourth.here
 
-          pub fourth_high : next ≤ length cells
-          fourth_high = at_fourth.here.high
+      -- Without hypotheses -----------------------------------------------------------------------------------------------------------------------
 
-          pub fourth_cell : next < length cells
-          fourth_cell = at_inside at_fourth.here
+      pub no_hyps : (v : ℕ) → holds (replicate FACTWORDS 0) v ≡ false
+      no_hyps v = ap (λ (a : Set). a v) (holds_zero FACTWORDS)
 
-          -- Without hypotheses ---------------------------------------------------------------------------------------------------------------
+      pub fourth_items : Holds K.text (take (length cells - next) (drop next cells)) (cons (item g.xs 3) (cons (item g.xs 4) (rest g.xs 5)))
+      fourth_items = subst (λ (w : Sexps). Holds K.text (take (length cells - next) (drop next cells)) (cons (item g.xs 3) w)) fifth (walk_rest at_fourth)
 
-          module _ {hyps : List ℕ} (z : hyps ≡ replicate FACTWORDS 0) where
-            no_hyps : (v : ℕ) → holds hyps v ≡ false
-            no_hyps v = ap (λ (s : List ℕ). holds s v) z ∙ ap (λ (a : Set). a v) (holds_zero FACTWORDS)
+      abbrev pub plain_form : InductForm K facts footings lists n I W m x (replicate FACTWORDS 0) (take (length cells - next) (drop next cells))
+      plain_form =
+          record {
+            S = g.S;
+            y = item g.xs 3;
+            z = item g.xs 4;
+            zs = rest g.xs 5;
+            refers = g.refers;
+            variable_known = spelled_known;
+            earlier = λ v q. absurd (false≢true (sym (no_hyps v) ∙ q));
+            long = length-replicate {A = ℕ} FACTWORDS 0;
+            items = fourth_items;
+          }
 
-            pub none_earlier : (v : ℕ) → holds hyps v ≡ true → v < length g.S.facts
-            none_earlier v q = absurd (false≢true (sym (no_hyps v) ∙ q))
+      pub spelled_derived : (Y Z : List ℕ) (new : Mark) (o : Result Derived Question) →
+          ((h : InductForm K facts footings lists n I W m x (replicate FACTWORDS 0) (take (length cells - next) (drop next cells))) →
+          DerivedBy Fact I W Y Z m new h.S (induct_on h.S x (rising (length h.S.facts) (holds (replicate FACTWORDS 0))) h.y h.z (made I W m)) alone o) →
+          DerivedBy Fact I W Y Z m new g.S (induct g.S g.xs (made I W m)) alone o
+      spelled_derived Y Z new o d =
+          derived_on g.S Y Z new o
+          (on_is (on_found_some _ 36 begin named)
+          (ap (λ (hs : List ℕ). induct_on g.S x hs (item g.xs 3) (item g.xs 4) (made I W m)) (sym (rising_empty (length g.S.facts) (holds (replicate FACTWORDS 0)) no_hyps))))
+          (d plain_form)
 
-            pub fourth_items : Holds text (take (length cells - next) (drop next cells)) (cons (item g.xs 3) (cons (item g.xs 4) (rest g.xs 5)))
-            fourth_items = subst (λ (w : Sexps). Holds text (take (length cells - next) (drop next cells)) (cons (item g.xs 3) w)) fifth (walk_rest at_fourth)
+      -- With hypotheses --------------------------------------------------------------------------------------------------------------------------
 
-            pub none_long : length hyps ≡ FACTWORDS
-            none_long = ap length z ∙ length-replicate {A = ℕ} FACTWORDS 0
+      abbrev pub hyps_asked : FactsItem K.text facts n (take (length cells - next) (drop next cells))
+      hyps_asked =
+          record {
+            S = g.S;
+            made_trees = made I W m;
+            footings = footings;
+            lists = lists;
+            x = item g.xs 3;
+            ys = rest g.xs 4;
+            recorded = g.refers.recorded;
+            holds = walk_rest at_fourth;
+          }
 
-            abbrev pub plain_form : InductForm theory goals text symbols ins vars defs facts lists n I W m x hyps (take (length cells - next) (drop next cells))
-            plain_form =
-                record {
-                  S = g.S;
-                  footings = footings;
-                  y = item g.xs 3;
-                  z = item g.xs 4;
-                  zs = rest g.xs 5;
-                  refers = g.refers;
-                  variable_known = spelled_known;
-                  earlier = none_earlier;
-                  long = none_long;
-                  items = fourth_items;
-                }
+      chosen : On I W m (induct_with g.S g.xs (made I W m)) I W m
+          (then (hyp_list is_plain g.S (item g.xs 3) (made I W m)) (λ hs N. induct_on g.S x hs (item g.xs 4) (item g.xs 5) N))
+      chosen = on_found_some _ 36 begin_with named
 
-            pub spelled_derived : (Y Z footing : List ℕ) (o : Derived) → footing ≡ replicate RULEWORDS 0 →
-                DerivedAs Fact I W Y Z m g.S (induct_on g.S x (rising (length g.S.facts) (holds hyps)) (item g.xs 3) (item g.xs 4) (made I W m)) alone hyps
-                (replicate RULEWORDS 0) o → DerivedAs Fact I W Y Z m g.S (induct g.S g.xs (made I W m)) alone hyps footing o
-            spelled_derived Y Z footing o f d =
-                subst (λ (s : List ℕ). DerivedAs Fact I W Y Z m g.S (induct g.S g.xs (made I W m)) alone hyps s o) (sym f)
-                (derived_on g.S Y Z hyps (replicate RULEWORDS 0) o
-                (on_is (on_found_some _ 36 begin named)
-                (ap (λ (hs : List ℕ). induct_on g.S x hs (item g.xs 3) (item g.xs 4) (made I W m)) (sym (rising_empty (length g.S.facts) (holds hyps) no_hyps)))) d)
+      pub hyps_refused : {before set : List ℕ} {q d : ℕ} →
+          ((h : FactsItem K.text facts n (take (length cells - next) (drop next cells))) →
+          ((M : Made) → hyp_list is_plain h.S h.x M ≡ refuse q d M) × ((set ≡ before) × (d ≡ 0))) →
+          Stopped I W I W m (induct_with g.S g.xs (made I W m)) q d m
+      hyps_refused c = on_stop _ chosen ((c hyps_asked).0 (made I W m))
 
-          -- With hypotheses ------------------------------------------------------------------------------------------------------------------
+      module _ (set : List ℕ) (c : (h : FactsItem K.text facts n (take (length cells - next) (drop next cells))) → HypsRead is_plain h.S h.x set) (six : 6 ≤ least) where
+        read : HypsRead is_plain g.S (item g.xs 3) set
+        read = c hyps_asked
 
-          abbrev pub hyps_asked : FactsItem text facts n (take (length cells - next) (drop next cells))
-          hyps_asked =
+        rises : read.hyps ≡ rising (length g.S.facts) (holds set)
+        rises = listed_rises g.S (item g.xs 3) read.hyps (made I W m) (read.are (made I W m)) ∙ ap (rising (length g.S.facts)) (sym read.set_is)
+
+        pub hyps_earlier : (v : ℕ) → holds set v ≡ true → v < length g.S.facts
+        hyps_earlier v q =
+            has_all read.hyps v
+            (subst (All (λ h. h < length g.S.facts)) (sym rises) (rising_all_of (length g.S.facts) (holds set) (λ w l e. l)))
+            (ap (λ (a : Set). a v) (sym read.set_is) ∙ q)
+
+        sixth : rest g.xs 5 ≡ cons (item g.xs 5) (rest g.xs 6)
+        sixth = rest_item g.xs 5 (omega (arith, g.many, six))
+
+        module _ {last : ℕ} (w : last ≡ behind next (item_at cells next)) where
+          at_fifth : Walk K.text cells last (cons (item g.xs 4) (rest g.xs 5))
+          at_fifth = subst (λ (z : Sexps). Walk K.text cells last z) fifth (walk_behind at_fourth w)
+
+          pub fifth_high : last ≤ length cells
+          fifth_high = at_fifth.here.high
+
+          pub fifth_items : Holds K.text (take (length cells - last) (drop last cells)) (cons (item g.xs 4) (cons (item g.xs 5) (rest g.xs 6)))
+          fifth_items = subst (λ (z : Sexps). Holds K.text (take (length cells - last) (drop last cells)) (cons (item g.xs 4) z)) sixth (walk_rest at_fifth)
+
+          abbrev pub with_form : length set ≡ FACTWORDS → InductForm K facts footings lists n I W m x set (take (length cells - last) (drop last cells))
+          with_form z =
               record {
                 S = g.S;
-                made_trees = made I W m;
-                footings = footings;
-                lists = lists;
-                x = item g.xs 3;
-                ys = rest g.xs 4;
-                recorded = g.refers.recorded;
-                holds = walk_rest at_fourth;
+                y = item g.xs 4;
+                z = item g.xs 5;
+                zs = rest g.xs 6;
+                refers = g.refers;
+                variable_known = spelled_known;
+                earlier = hyps_earlier;
+                long = z;
+                items = fifth_items;
               }
 
-          chosen : On I W m (induct_with g.S g.xs (made I W m)) I W m
-              (then (hyp_list is_plain g.S (item g.xs 3) (made I W m)) (λ hs N. induct_on g.S x hs (item g.xs 4) (item g.xs 5) N))
-          chosen = on_found_some _ 36 begin_with named
-
-          module _ (before set : List ℕ) (k : Listed)
-              (c : (h : FactsItem text facts n (take (length cells - next) (drop next cells))) → HypsAs is_plain h.S h.x before set k) where
-            pub hyps_refused : {q : ℕ} → k ≡ listed.No q → Stopped I W I W m (induct_with g.S g.xs (made I W m)) q 0 m
-            hyps_refused f = on_stop _ chosen ((subst (HypsAs is_plain g.S (item g.xs 3) before set) f (c hyps_asked)).0 (made I W m))
-
-            module _ (f : k ≡ listed.Ok) (six : 6 ≤ least) where
-              read : HypsRead is_plain g.S (item g.xs 3) set
-              read = subst (HypsAs is_plain g.S (item g.xs 3) before set) f (c hyps_asked)
-
-              rises : read.hyps ≡ rising (length g.S.facts) (holds set)
-              rises = listed_rises g.S (item g.xs 3) read.hyps (made I W m) (read.are (made I W m)) ∙ ap (rising (length g.S.facts)) (sym read.set_is)
-
-              pub hyps_earlier : (v : ℕ) → holds set v ≡ true → v < length g.S.facts
-              hyps_earlier v q =
-                  has_all read.hyps v
-                  (subst (All (λ h. h < length g.S.facts)) (sym rises) (rising_all_of (length g.S.facts) (holds set) (λ w l e. l)))
-                  (ap (λ (a : Set). a v) (sym read.set_is) ∙ q)
-
-              sixth : rest g.xs 5 ≡ cons (item g.xs 5) (rest g.xs 6)
-              sixth = rest_item g.xs 5 (omega (arith, g.many, six))
-
-              module _ {last : ℕ} (w : last ≡ behind next (item_at cells next)) where
-                pub at_fifth : Walk text cells last (cons (item g.xs 4) (rest g.xs 5))
-                at_fifth = subst (λ (z : Sexps). Walk text cells last z) fifth (walk_behind at_fourth w)
-
-                pub fifth_high : last ≤ length cells
-                fifth_high = at_fifth.here.high
-
-                pub fifth_items : Holds text (take (length cells - last) (drop last cells)) (cons (item g.xs 4) (cons (item g.xs 5) (rest g.xs 6)))
-                fifth_items = subst (λ (z : Sexps). Holds text (take (length cells - last) (drop last cells)) (cons (item g.xs 4) z)) sixth (walk_rest at_fifth)
-
-                abbrev pub with_form : length set ≡ FACTWORDS →
-                    InductForm theory goals text symbols ins vars defs facts lists n I W m x set (take (length cells - last) (drop last cells))
-                with_form z =
-                    record {
-                      S = g.S;
-                      footings = footings;
-                      y = item g.xs 4;
-                      z = item g.xs 5;
-                      zs = rest g.xs 6;
-                      refers = g.refers;
-                      variable_known = spelled_known;
-                      earlier = hyps_earlier;
-                      long = z;
-                      items = fifth_items;
-                    }
-
-                pub with_derived : (Y Z footing : List ℕ) (o : Derived) → footing ≡ replicate RULEWORDS 0 →
-                    DerivedAs Fact I W Y Z m g.S (induct_on g.S x (rising (length g.S.facts) (holds set)) (item g.xs 4) (item g.xs 5) (made I W m)) alone set
-                    (replicate RULEWORDS 0) o → DerivedAs Fact I W Y Z m g.S (induct_with g.S g.xs (made I W m)) alone set footing o
-                with_derived Y Z footing o p d =
-                    subst (λ (s : List ℕ). DerivedAs Fact I W Y Z m g.S (induct_with g.S g.xs (made I W m)) alone set s o) (sym p)
-                    (derived_on g.S Y Z set (replicate RULEWORDS 0) o
-                    (on_is (on_pure _ chosen (read.are (made I W m)))
-                    (ap (λ (hs : List ℕ). induct_on g.S x hs (item g.xs 4) (item g.xs 5) (made I W m)) rises)) d)
+          pub with_derived : length set ≡ FACTWORDS → (Y Z : List ℕ) (new : Mark) (o : Result Derived Question) →
+              ((h : InductForm K facts footings lists n I W m x set (take (length cells - last) (drop last cells))) →
+              DerivedBy Fact I W Y Z m new h.S (induct_on h.S x (rising (length h.S.facts) (holds set)) h.y h.z (made I W m)) alone o) →
+              DerivedBy Fact I W Y Z m new g.S (induct_with g.S g.xs (made I W m)) alone o
+          with_derived z Y Z new o d =
+              derived_on g.S Y Z new o
+              (on_is (on_pure _ chosen (read.are (made I W m)))
+              (ap (λ (hs : List ℕ). induct_on g.S x hs (item g.xs 4) (item g.xs 5) (made I W m)) rises))
+              (d (with_form z))

@@ -6,8 +6,8 @@ use Prim.Native.Nat.{ℕ, zero, suc, ◌+◌, ◌*◌, ◌<◌, ◌≤◌}
 use native.Mathlib.Omega.{arith}
 use native.Mathlib.Numerals.{add-one}
 use lib.Dec.{eqb}
-use lib.ListN.{length, get_or, set, take, drop, replicate, length-set, length-replicate, get_or-append}
-use lib.Seq.{take-suc, take-suc-set, take_all, get_or-set_other, sets, length-sets, sets-eq}
+use lib.ListN.{length, get_or, set, take, drop, replicate, length-set, length-replicate}
+use lib.Seq.{take_at, take-suc, take-suc-set, take_all, get_or-set_other, sets, sets-eq}
 use borrow.Author.Tests.{eq-eqb, ne_eqb}
 use Rattle.rules.specs.Limits.{FACTS, FACTWORDS, TERMWORDS, VARIABLEWORDS}
 use Rattle.rules.specs.Find.{Set, any, has, union, rising, rising_from}
@@ -20,7 +20,7 @@ use Rattle.rules.specs.Laws.Theory.{All, both, all_at}
 use Rattle.rules.specs.Laws.Rising.{rising_all_of}
 use Rattle.terms.specs.declared.store.Mark.{Mark}
 use Rattle.terms.specs.Table.{made, tree, args_of, Good}
-use Rattle.terms.specs.Collect.{Seen, Readable, Visited}
+use Rattle.terms.specs.Collect.{Seen, Visited}
 use Rattle.terms.specs.Sets.{holds}
 use Rattle.terms.specs.Laws.Numbers.{same_number}
 use Rattle.terms.specs.Laws.Sets.{eqb_iff, holds_zero}
@@ -29,9 +29,9 @@ use Rattle.state.specs.declared.sizes.Sizes.{Sizes}
 use Rattle.state.specs.Held.{records, Recorded}
 use Rattle.state.specs.Rows.{cell}
 use Rattle.state.specs.FactLaws.{fact_row_lem}
-use Rattle.referring.specs.Recall.{ReadableAll}
 use Rattle.referring.specs.Referral.{Gathered}
-use Rattle.induction.specs.Inducing.{Below, motive_in, Motived, judgment_cells, hyps_in, plain_at, Resting, BeforeRest}
+use Rattle.referring.specs.Substitutes.{Below}
+use Rattle.induction.specs.Inducing.{motive_in, judgment_cells, hyps_in, plain_at, Resting, BeforeRest}
 
 -- The judgments of facts -----------------------------------------------------------------------------------------------------------------
 
@@ -58,70 +58,64 @@ members_below : (a : Set) → All (λ h. h < FACTS) (rising FACTS a)
 members_below a = rising_all_of FACTS a (λ v l e. l)
 
 -- the first k are replaced by their judgments
-pub record Judged (facts hs out : List ℕ) (count k : ℕ) : Type 0 where
+pub record Judged (facts hs out : List ℕ) (k : ℕ) : Type 0 where
   pub done : take k out ≡ judgment_cells facts (take k hs)
-  pub left : (i : ℕ) → k ≤ i → i < count → get_or out i 0 ≡ get_or hs i 0
-  pub many : count ≡ length hs
-  pub long : length out ≡ FACTS
-  pub near : k ≤ count
+  pub left : (i : ℕ) → k ≤ i → i < length hs → get_or out i 0 ≡ get_or hs i 0
+  pub many : length out ≡ length hs
 
 module _ (hyps : List ℕ) (wide : length hyps ≡ FACTWORDS) where
   all_words : 64 * length hyps ≡ FACTS
   all_words = omega (arith, wide)
 
-  pub write_asks : (out : List ℕ) → length out ≡ FACTS → (length hyps ≤ TERMWORDS) × (length (rising (64 * length hyps) (holds hyps)) ≤ length out)
-  write_asks out e =
-      (omega (arith, wide), subst (λ (n : ℕ). length (rising n (holds hyps)) ≤ length out) (sym all_words) (omega (arith, members_few (holds hyps), e)))
+  pub write_asks : (out : List ℕ) → length out ≡ FACTS → length (rising (64 * length hyps) (holds hyps)) ≤ length out
+  write_asks out e = subst (λ (n : ℕ). length (rising n (holds hyps)) ≤ length out) (sym all_words) (omega (arith, members_few (holds hyps), e))
 
-  pub judged_start : (before : List ℕ) {facts out : List ℕ} {count : ℕ} → length before ≡ FACTS →
-      (count ≡ length (rising (64 * length hyps) (holds hyps))) × (out ≡ sets before 0 (rising (64 * length hyps) (holds hyps))) →
-      Judged facts (rising FACTS (holds hyps)) out count 0
-  unfolding judgment_cells
-  judged_start before {facts} {out} {count} e a =
-      let hs = rising FACTS (holds hyps) in
-      let q : rising (64 * length hyps) (holds hyps) ≡ hs = ap (λ (n : ℕ). rising n (holds hyps)) all_words in
-      let o : out ≡ hs ++ drop (0 + length hs) before = a.1 ∙ ap (sets before 0) q ∙ sets-eq hs before 0 (omega (arith, members_few (holds hyps), e)) in
-      let c : count ≡ length hs = a.0 ∙ ap length q in
-      record {
-        done = refl;
-        left = λ i l m. ap (λ (z : List ℕ). get_or z i 0) o ∙ get_or-append hs (drop (0 + length hs) before) 0 i (omega (arith, c, m));
-        many = c;
-        long = ap length a.1 ∙ length-sets before 0 (rising (64 * length hyps) (holds hyps)) ∙ e;
-        near = omega arith;
-      }
+  module _ (before : List ℕ) {out : List ℕ} {count : ℕ} (long : length before ≡ FACTS)
+      (a : (count ≡ length (rising (64 * length hyps) (holds hyps))) × (out ≡ sets before 0 (rising (64 * length hyps) (holds hyps)))) where
+    written : rising (64 * length hyps) (holds hyps) ≡ rising FACTS (holds hyps)
+    written = ap (λ (n : ℕ). rising n (holds hyps)) all_words
 
-module _ (hyps : List ℕ) {facts out : List ℕ} {count k : ℕ} (h : Judged facts (rising FACTS (holds hyps)) out count k) where
-  pub judged_few : count ≤ FACTS
-  judged_few = omega (arith, h.many, members_few (holds hyps))
+    written_out : out ≡ rising FACTS (holds hyps) ++ drop (0 + length (rising FACTS (holds hyps))) before
+    written_out = a.1 ∙ ap (sets before 0) written ∙ sets-eq (rising FACTS (holds hyps)) before 0 (omega (arith, members_few (holds hyps), long))
 
-  module _ (l : k < count) where
-    pub judged_place : k < length out
-    judged_place = omega (arith, h.long, judged_few, l)
+    pub count_is : count ≡ length (rising FACTS (holds hyps))
+    count_is = a.0 ∙ ap length written
 
+    pub count_few : count ≤ FACTS
+    count_few = omega (arith, count_is, members_few (holds hyps))
+
+    pub judged_start : {facts : List ℕ} → Judged facts (rising FACTS (holds hyps)) (take count out) 0
+    unfolding judgment_cells
+    judged_start =
+        let e : take count out ≡ rising FACTS (holds hyps) =
+        ap (take count) written_out ∙ take_at (rising FACTS (holds hyps)) (drop (0 + length (rising FACTS (holds hyps))) before) count (sym count_is) in
+        record { done = refl; left = λ i l m. ap (λ (z : List ℕ). get_or z i 0) e; many = ap length e }
+
+module _ (hyps : List ℕ) {facts out : List ℕ} {k : ℕ} (h : Judged facts (rising FACTS (holds hyps)) out k) where
+  module _ (l : k < length out) where
     pub judged_fact : get_or out k 0 < FACTS
     judged_fact =
-        subst (λ (v : ℕ). v < FACTS) (sym (h.left k (omega arith) l))
+        subst (λ (v : ℕ). v < FACTS) (sym (h.left k (omega arith) (omega (arith, l, h.many))))
         (all_at (rising FACTS (holds hyps)) k 0 (members_below (holds hyps)) (omega (arith, h.many, l)))
 
-    pub judged_again : {j : ℕ} → j ≡ cell 6 facts (get_or out k 0) 0 → Judged facts (rising FACTS (holds hyps)) (set out k j) count (k + 1)
+    pub judged_again : {j : ℕ} → j ≡ cell 6 facts (get_or out k 0) 0 → Judged facts (rising FACTS (holds hyps)) (set out k j) (k + 1)
     judged_again {j} e =
         let hs = rising FACTS (holds hyps) in
         record {
-          done = ap (λ (n : ℕ). take n (set out k j)) (add-one k) ∙ take-suc-set out k j judged_place
-              ∙ (λ i. h.done i ++ ((e ∙ ap (λ (f : ℕ). cell 6 facts f 0) (h.left k (omega arith) l)) i ∷ []))
+          done = ap (λ (n : ℕ). take n (set out k j)) (add-one k) ∙ take-suc-set out k j l
+              ∙ (λ i. h.done i ++ ((e ∙ ap (λ (f : ℕ). cell 6 facts f 0) (h.left k (omega arith) (omega (arith, l, h.many)))) i ∷ []))
               ∙ sym (cells_snoc facts (take k hs) (get_or hs k 0))
               ∙ ap (judgment_cells facts) (sym (take-suc hs k 0 (omega (arith, h.many, l))))
               ∙ ap (λ (n : ℕ). judgment_cells facts (take n hs)) (sym (add-one k));
           left = λ i m p. get_or-set_other out k i j 0 (λ z. omega arith) ∙ h.left i (omega arith) p;
-          many = h.many;
-          long = length-set out k j ∙ h.long;
-          near = omega arith;
+          many = length-set out k j ∙ h.many;
         }
 
-  pub judged_done : count ≤ k → (count ≤ FACTS) × (take count out ≡ judgment_cells facts (rising FACTS (holds hyps)))
-  judged_done l =
-      let e : count ≡ k = omega (arith, h.near) in
-      (judged_few, ap (λ (n : ℕ). take n out) e ∙ h.done ∙ ap (judgment_cells facts) (take_all k (rising FACTS (holds hyps)) (omega (arith, h.many, e))))
+  pub judged_done : {count : ℕ} → count ≡ length (rising FACTS (holds hyps)) → length out ≤ k → (rest : List ℕ) →
+      take count (out ++ rest) ≡ judgment_cells facts (rising FACTS (holds hyps))
+  judged_done {count} e l rest =
+      take_at out rest count (h.many ∙ sym e) ∙ sym (take_all k out l) ∙ h.done
+      ∙ ap (judgment_cells facts) (take_all k (rising FACTS (holds hyps)) (omega (arith, h.many, l)))
 
 -- they are the judgments that the definition takes
 pub cells_are : {facts footings lists : List ℕ} {n : Sizes} {M : Made} {S : State} → Recorded (records facts footings lists) n M S → (hs : List ℕ) → All (λ h. h < n.facts) hs →
@@ -140,29 +134,18 @@ cells_below h (x ∷ hs) (both p a) (suc k) l = cells_below h hs a k (omega arit
 
 -- The motive's variables ----------------------------------------------------------------------------------------------------------------
 
-module _ {I W : List ℕ} {m : Mark} {x j : ℕ} {premises set₀ : List ℕ} (g : Motived I W m x j premises × (set₀ ≡ replicate VARIABLEWORDS 0)) where
-  set_long : length set₀ ≡ VARIABLEWORDS
-  set_long = ap length g.1 ∙ length-replicate {A = ℕ} VARIABLEWORDS 0
+module _ {I W : List ℕ} {m : Mark} where
+  pub nothing_seen : (set : Set) → Seen I W m (holds (replicate TERMWORDS 0)) set
+  nothing_seen set = seen_none I W m set (replicate TERMWORDS 0) (sym (ap (λ (n : ℕ). replicate {A = ℕ} n 0) (length-replicate {A = ℕ} TERMWORDS 0)))
 
-  pub motive_visit : Readable I W m j (replicate TERMWORDS 0) set₀ × Seen I W m (holds (replicate TERMWORDS 0)) (holds set₀)
-  motive_visit = (
-    record { good = g.0.good; there = g.0.there; wide = omega (arith, length-replicate {A = ℕ} TERMWORDS 0); broad = omega (arith, set_long) },
-    seen_none I W m (holds set₀) (replicate TERMWORDS 0) (sym (ap (λ (n : ℕ). replicate {A = ℕ} n 0) (length-replicate {A = ℕ} TERMWORDS 0))),
-  )
-
-  module _ (seen set₁ : List ℕ) (v : Visited I W m j (holds (replicate TERMWORDS 0)) (holds set₀) (holds seen) (holds set₁)) where
-    pub motive_visit_all : length seen ≡ length {A = ℕ} (replicate TERMWORDS 0) → length set₁ ≡ length set₀ →
-        ReadableAll I W m premises seen set₁ × Seen I W m (holds seen) (holds set₁)
-    motive_visit_all a b =
-        (record { good = g.0.good; there = g.0.known; wide = a ∙ length-replicate {A = ℕ} TERMWORDS 0; broad = b ∙ set_long }, v.visits)
-
-    pub motive_vars_lem : (seen' set₂ : List ℕ) →
-        Gathered I W m (variables_of (args_of (made I W m) premises)) (holds set₁) (holds seen') (holds set₂) → (sort : ℕ) →
-        holds set₂ ≡ motive_vars (motive_in (made I W m) x sort j premises)
-    unfolding motive_vars
-    motive_vars_lem seen' set₂ r sort =
-        r.set ∙ ap (λ (a : Set). union a (variables_of (args_of (made I W m) premises)))
-        (v.set ∙ ap (λ (a : Set). union a (variables (tree I W m j))) (ap holds g.1 ∙ holds_zero VARIABLEWORDS))
+  pub motive_gathers : {j : ℕ} (premises seen' : List ℕ) {seen set a : Set} →
+      Visited I W m j (holds (replicate TERMWORDS 0)) (holds (replicate VARIABLEWORDS 0)) seen set →
+      Gathered I W m (variables_of (args_of (made I W m) premises)) set (holds seen') a → (x sort : ℕ) →
+      a ≡ motive_vars (motive_in (made I W m) x sort j premises)
+  unfolding motive_vars
+  motive_gathers {j} premises seen' v r x sort =
+      r.set ∙ ap (λ (a : Set). union a (variables_of (args_of (made I W m) premises)))
+      (v.set ∙ ap (λ (a : Set). union a (variables (tree I W m j))) (holds_zero VARIABLEWORDS))
 
 -- What a plain hypothesis may be ------------------------------------------------------------------------------------------------------------
 
@@ -204,8 +187,31 @@ module _ {facts lists : List ℕ} {n : Sizes} {plain used : List ℕ} {x w : ℕ
       or_none true e = refl
       or_none false e = e
 
-  abbrev pub rest_with : (w ≡ 0 → ⊥) → Resting facts lists n plain used x w ids many
-  rest_with q =
+  -- it has none: the judgments of the induction hypotheses are in the set as well
+  module _ (q : w ≡ 0) where
+    rows_one : many * suc w ≡ many
+    rows_one = ap (λ (n : ℕ). many * suc n) q ∙ (let z : many * 1 ≡ many = omega arith in z)
+
+    pub rest_inside : many ≤ length ids
+    rest_inside = omega (arith, g.room, rows_one)
+
+    pub known_one : Below g.m.terms (take many ids)
+    known_one = subst (λ (n : ℕ). Below g.m.terms (take n ids)) rows_one g.known
+
+    pub plain_without : (plain' : List ℕ) → holds plain' ≡ union (holds plain) (has (take many ids)) → (t : ℕ) → t < g.m.terms →
+        holds plain' t ≡ plain_at g.M g.ps (hyps_in (made g.I g.W g.m) w many ids) (tree g.I g.W g.m t)
+    unfolding plain_at
+    plain_without plain' e t l =
+        ap (λ (s : Set). s t) e
+        ∙ (λ i. g.plain_are t l i || sym (judgments_has g.good many ids rest_inside known_one t l) i)
+        ∙ (λ i. among g.ps (tree g.I g.W g.m t)
+        || (sym (g.premises_are ∙ eq-eqb w 0 q) i && any (λ y. same_tree y.judgment (tree g.I g.W g.m t)) (hyps_in (made g.I g.W g.m) (sym q i) many ids)))
+
+  -- what the questions of the fact are given
+  abbrev pub rest_given : (plain' : List ℕ) → length plain' ≡ length plain →
+      ((t : ℕ) → t < g.m.terms → holds plain' t ≡ plain_at g.M g.ps (hyps_in (made g.I g.W g.m) w many ids) (tree g.I g.W g.m t)) →
+      Resting facts lists n plain' used x w ids many
+  rest_given plain' a e =
       record {
         S = g.S;
         footings = g.footings;
@@ -219,53 +225,9 @@ module _ {facts lists : List ℕ} {n : Sizes} {plain used : List ℕ} {x w : ℕ
         variable_is = g.variable_is;
         used_are = g.used_are;
         wide = g.wide;
-        plain_are = plain_with q;
-        long = g.long;
+        plain_are = e;
+        long = a ∙ g.long;
+        narrow = g.narrow;
         room = g.room;
         known = g.known;
       }
-
-  -- it has none: the judgments of the induction hypotheses are in the set as well
-  module _ (q : w ≡ 0) where
-    rows_one : many * suc w ≡ many
-    rows_one = ap (λ (n : ℕ). many * suc n) q ∙ (let z : many * 1 ≡ many = omega arith in z)
-
-    pub rest_inside : many ≤ length ids
-    rest_inside = omega (arith, g.room, rows_one)
-
-    pub known_one : Below g.m.terms (take many ids)
-    known_one = subst (λ (n : ℕ). Below g.m.terms (take n ids)) rows_one g.known
-
-    pub rest_ids : Below (64 * length plain) (take many ids)
-    rest_ids k l = omega (arith, known_one k l, g.good.room, g.long)
-
-    pub plain_without : (plain' : List ℕ) → holds plain' ≡ union (holds plain) (has (take many ids)) → (t : ℕ) → t < g.m.terms →
-        holds plain' t ≡ plain_at g.M g.ps (hyps_in (made g.I g.W g.m) w many ids) (tree g.I g.W g.m t)
-    unfolding plain_at
-    plain_without plain' e t l =
-        ap (λ (s : Set). s t) e
-        ∙ (λ i. g.plain_are t l i || sym (judgments_has g.good many ids rest_inside known_one t l) i)
-        ∙ (λ i. among g.ps (tree g.I g.W g.m t)
-        || (sym (g.premises_are ∙ eq-eqb w 0 q) i && any (λ y. same_tree y.judgment (tree g.I g.W g.m t)) (hyps_in (made g.I g.W g.m) (sym q i) many ids)))
-
-    abbrev pub rest_without : (plain' : List ℕ) → length plain' ≡ length plain → holds plain' ≡ union (holds plain) (has (take many ids)) →
-        Resting facts lists n plain' used x w ids many
-    rest_without plain' a e =
-        record {
-          S = g.S;
-          footings = g.footings;
-          I = g.I;
-          W = g.W;
-          m = g.m;
-          M = g.M;
-          ps = g.ps;
-          recorded = g.recorded;
-          good = g.good;
-          variable_is = g.variable_is;
-          used_are = g.used_are;
-          wide = g.wide;
-          plain_are = plain_without plain' e;
-          long = a ∙ g.long;
-          room = g.room;
-          known = g.known;
-        }

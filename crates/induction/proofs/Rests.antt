@@ -1,15 +1,16 @@
 -- What a case may rest on, by numbers: cells compared, variables generalised, rows of induction hypotheses. Assumes nothing.
 use mathlib.Core.Path.{◌≡◌, refl, sym, ap, ◌∙◌, subst}
 use mathlib.Core.Bool.{Bool, true, false, ◌&&◌, ◌||◌, not}
-use mathlib.Core.List.{List, [], ◌∷◌}
+use mathlib.Core.List.{List, [], ◌∷◌, ◌++◌}
 use Prim.Native.Nat.{ℕ, zero, suc, ◌+◌, ◌-◌, ◌*◌, ◌<◌, ◌≤◌}
 use native.Mathlib.Omega.{arith}
+use native.Mathlib.Decide.{dec_lt}
 use native.Mathlib.Nat.{suc-mul}
 use native.Mathlib.Numerals.{add-one}
 use lib.Dec.{eqb}
-use lib.ListN.{length, get_or, take, drop, length-drop, length-take, drop_of_length-le}
+use lib.ListN.{length, get_or, take, drop, length-drop, length-take, length-append, get_or-append, drop_of_length-le}
 use lib.Pointwise.{pointwise}
-use lib.Seq.{drop-cons, get_or-drop, get_or-take, drop-drop, length-take-le}
+use lib.Seq.{drop-cons, drop_at, get_or-drop, get_or-take, take-nil, length-take-le}
 use borrow.Author.Tests.{eq-eqb, ne_eqb}
 use Rattle.rules.specs.Find.{Set, any, all}
 use Rattle.rules.specs.Tree.{same_tree, same_trees}
@@ -17,7 +18,8 @@ use Rattle.terms.specs.declared.store.Mark.{Mark}
 use Rattle.terms.specs.Table.{made, tree, args_of, Good}
 use Rattle.terms.specs.Node.{same_words}
 use Rattle.terms.specs.Laws.Numbers.{same_number, same_numbers}
-use Rattle.induction.specs.Inducing.{Below, hyps_in, row_among}
+use Rattle.referring.specs.Substitutes.{Below}
+use Rattle.induction.specs.Inducing.{hyps_in, row_among}
 
 -- Cells compared ------------------------------------------------------------------------------------------------------------------------
 
@@ -32,6 +34,14 @@ slices_same (x ∷ xs) (y ∷ ys) = go (eqb x y) (slices_same xs ys)
     go true e = e
     go false e = refl
 
+and_yes : (b : Bool) → (b && true) ≡ b
+and_yes true = refl
+and_yes false = refl
+
+and_no : (b : Bool) → (b && false) ≡ false
+and_no true = refl
+and_no false = refl
+
 -- Variables generalised --------------------------------------------------------------------------------------------------------------------
 
 abbrev pub other : Set → ℕ → ℕ → Bool
@@ -40,9 +50,6 @@ other used x g = used g && not (eqb g x)
 pub record Generalising (own : List ℕ) (used : Set) (x k : ℕ) : Type 0 where
   pub on : all (other used x) own ≡ all (other used x) (drop k own)
   pub near : k ≤ length own
-
-pub generalising_start : (own : List ℕ) (used : Set) (x : ℕ) → Generalising own used x 0
-generalising_start own used x = record { on = refl; near = omega arith }
 
 module _ {own : List ℕ} {used : Set} {x k : ℕ} (h : Generalising own used x k) where
   generalising_step : k < length own → all (other used x) own ≡ elim (other used x (get_or own k 0)) [ true ↦ all (other used x) (drop (suc k) own) | false ↦ false ]
@@ -73,58 +80,59 @@ module _ {own : List ℕ} {used : Set} {x k : ℕ} (h : Generalising own used x 
 
 -- Rows of induction hypotheses --------------------------------------------------------------------------------------------------------------
 
--- those behind the first k rows are left, from a place on
-pub record Rowing (own : List ℕ) (j w : ℕ) (ids : List ℕ) (many k at : ℕ) : Type 0 where
-  pub on : row_among w many ids own j ≡ row_among w (many - k) (drop at ids) own j
-  pub room : at + (many - k) * suc w ≤ length ids
+-- so many are left, in these cells
+pub record Rowing (own : List ℕ) (j w : ℕ) (ids : List ℕ) (many : ℕ) (rest : List ℕ) (left : ℕ) : Type 0 where
+  pub on : row_among w many ids own j ≡ row_among w left rest own j
+  pub room : left * suc w ≤ length rest
 
-pub rowing_start : (own : List ℕ) (j w : ℕ) (ids : List ℕ) (many : ℕ) → many * suc w ≤ length ids → Rowing own j w ids many 0 0
-rowing_start own j w ids many l =
-    let e : many ≡ many - 0 = omega arith in
-    record { on = ap (λ (n : ℕ). row_among w n ids own j) e; room = omega (arith, subst (λ (n : ℕ). n * suc w ≤ length ids) e l) }
-
-module _ {own : List ℕ} {j w : ℕ} {ids : List ℕ} {many k at : ℕ} (h : Rowing own j w ids many k at) where
-  pub rowing_done : many ≤ k → false ≡ row_among w many ids own j
+module _ {own : List ℕ} {j w : ℕ} {ids : List ℕ} {many : ℕ} {rest : List ℕ} {left : ℕ} (h : Rowing own j w ids many rest left) where
+  pub rowing_done : (0 < left → length rest < suc w) → false ≡ row_among w many ids own j
   unfolding row_among
-  rowing_done l = let e : many - k ≡ 0 = omega arith in sym (h.on ∙ ap (λ (n : ℕ). row_among w n (drop at ids) own j) e)
+  rowing_done short = sym (h.on ∙ ap (λ (n : ℕ). row_among w n rest own j) none)
+    where
+      none : left ≡ 0
+      none = elim (dec_lt 0 left) [
+        | yes p ↦ let e : left ≡ suc (left - 1) = omega arith in absurd (omega (arith, short p, h.room, ap (λ (n : ℕ). n * suc w) e, suc-mul (left - 1) (suc w)))
+        | no q ↦ omega arith
+      ]
 
-  module _ (l : k < many) where
-    more_left : many - k ≡ suc (many - (k + 1))
-    more_left = omega arith
-
-    room_left : at + (suc w + (many - (k + 1)) * suc w) ≤ length ids
-    room_left = omega (arith, h.room, ap (λ (n : ℕ). n * suc w) more_left, suc-mul (many - (k + 1)) (suc w))
-
-    pub rowing_high : at + w < length ids
-    rowing_high = omega (arith, room_left)
-
-    step : row_among w many ids own j
-        ≡ (same_words (take (at + w - at) (drop at ids)) own && eqb (get_or ids (at + w) 0) j) || row_among w (many - (k + 1)) (drop (at + w + 1) ids) own j
+  -- a row more
+  module _ (row rest' : List ℕ) (left' : ℕ) (e : rest ≡ row ++ rest') (l : length row ≡ suc w) (f : left' + 1 ≡ left) where
+    step : row_among w many ids own j ≡ (same_words (take w row) own && eqb (get_or row w 0) j) || row_among w left' rest' own j
     unfolding row_among
     step =
-        let e : w ≡ at + w - at = omega arith in
-        let p : at + suc w ≡ at + w + 1 = omega arith in
-        h.on ∙ ap (λ (n : ℕ). row_among w n (drop at ids) own j) more_left
-        ∙ (λ i. (same_words (take (e i) (drop at ids)) own && eqb (get_or-drop at ids w 0 i) j) || row_among w (many - (k + 1)) ((drop-drop (suc w) at ids ∙ ap (λ (n : ℕ). drop n ids) p) i) own j)
+        let g : left ≡ suc left' = omega (arith, f) in
+        h.on
+        ∙ (λ i. row_among w (g i) (e i) own j)
+        ∙ (λ i. (same_words (take_front row rest' w (omega (arith, l)) i) own && eqb (get_or-append row rest' 0 w (omega (arith, l)) i) j) || row_among w left' (drop_at row rest' (suc w) l i) own j)
+      where
+        take_front : (xs ys : List ℕ) (k : ℕ) → k ≤ length xs → take k (xs ++ ys) ≡ take k xs
+        take_front [] ys k q = let z : k ≡ 0 = omega (arith, q) in ap (λ (n : ℕ). take n ys) z ∙ sym (take-nil k)
+        take_front (x ∷ xs) ys zero q = refl
+        take_front (x ∷ xs) ys (suc k) q = ap (λ (l : List ℕ). x ∷ l) (take_front xs ys k (omega arith))
 
-    module _ {t : Bool} (e : t ≡ same_words (take (at + w - at) (drop at ids)) own && eqb (get_or ids (at + w) 0) j) where
-      pub rowing_else : t ≡ false → Rowing own j w ids many (k + 1) (at + w + 1)
-      rowing_else f =
-          record {
-            on = step ∙ ap (λ (b : Bool). b || row_among w (many - (k + 1)) (drop (at + w + 1) ids) own j) (sym e ∙ f);
-            room = omega (arith, room_left);
-          }
+    -- it is not that one
+    passed : (same_words (take w row) own && eqb (get_or row w 0) j) ≡ false → Rowing own j w ids many rest' left'
+    passed d =
+        let g : left ≡ suc left' = omega (arith, f) in
+        record {
+          on = step ∙ ap (λ (b : Bool). b || row_among w left' rest' own j) d;
+          room = omega (arith, h.room, ap (λ (n : ℕ). n * suc w) g, suc-mul left' (suc w), ap length e, length-append row rest', l);
+        }
+
+    pub rowing_other : (get_or row w 0 ≡ j → ⊥) → Rowing own j w ids many rest' left'
+    rowing_other q = passed (ap (λ (b : Bool). same_words (take w row) own && b) (ne_eqb (get_or row w 0) j q) ∙ and_no (same_words (take w row) own))
+
+    module _ (q : get_or row w 0 ≡ j) {t : Bool} (d : t ≡ pointwise eqb (take w row) own) where
+      is_row : (same_words (take w row) own && eqb (get_or row w 0) j) ≡ t
+      is_row =
+          ap (λ (b : Bool). same_words (take w row) own && b) (eq-eqb (get_or row w 0) j q) ∙ and_yes (same_words (take w row) own) ∙ sym (d ∙ slices_same (take w row) own)
+
+      pub rowing_unlike : t ≡ false → Rowing own j w ids many rest' left'
+      rowing_unlike z = passed (is_row ∙ z)
 
       pub rowing_found : t ≡ true → true ≡ row_among w many ids own j
-      rowing_found f = sym (step ∙ ap (λ (b : Bool). b || row_among w (many - (k + 1)) (drop (at + w + 1) ids) own j) (sym e ∙ f))
-
--- a row compared
-pub row_same : (cells own : List ℕ) (a j : ℕ) {t : Bool} → a ≡ j → t ≡ pointwise eqb cells own → t ≡ (same_words cells own && eqb a j)
-row_same cells own a j {t} q e = e ∙ slices_same cells own ∙ sym (ap (λ (b : Bool). same_words cells own && b) (eq-eqb a j q) ∙ and_yes (same_words cells own))
-  where
-    and_yes : (b : Bool) → (b && true) ≡ b
-    and_yes true = refl
-    and_yes false = refl
+      rowing_found z = sym (step ∙ ap (λ (b : Bool). b || row_among w left' rest' own j) (is_row ∙ z))
 
 -- rows of numbers are the hypotheses of those terms
 below_take : {n : ℕ} (a b : ℕ) (xs : List ℕ) → a ≤ b → Below n (take b xs) → Below n (take a xs)

@@ -7,11 +7,11 @@ use native.Mathlib.Omega.{arith}
 use native.Mathlib.Nat.{suc-mul}
 use native.Mathlib.Numerals.{add-one}
 use native.Mathlib.Decide.{dec_lt}
-use lib.ListN.{length, get_or, set, take, drop, length-set, length-drop, drop_of_length-le}
-use lib.Seq.{take-nil, drop-cons, take-set-le, take-take, length-take-le, get_or-take, get_or-drop, drop-drop, drop-set-add, take_at, drop_at, get_or-set_same}
+use lib.ListN.{length, get_or, set, take, drop, length-set, length-drop}
+use lib.Seq.{take-nil, take-set-le, take-take, length-take-le, get_or-take, get_or-drop, drop-drop, drop-set-add, take_at, drop_at, get_or-set_same}
 use borrow.Author.Tests.{eq-eqb, ne_eqb}
 use borrow.Rule.Slice.PartMut.{put_mid, mid_of, same_len_mid, mid_len, take_put}
-use Rattle.rules.specs.Limits.{VARIABLES, TERMS}
+use Rattle.rules.specs.Limits.{VARIABLES}
 use Rattle.rules.specs.Out.{Out, ok, then, Act}
 use Rattle.rules.specs.Store.{Made}
 use Rattle.rules.specs.Induct.{Hyp, Motive, hypothesis_at, hypotheses}
@@ -19,11 +19,11 @@ use Rattle.rules.specs.Laws.Out.{then_then}
 use Rattle.terms.specs.declared.store.Mark.{Mark}
 use Rattle.terms.specs.Table.{made, Grown}
 use Rattle.terms.specs.On.{Stopped, On, on_start, on_is, on_ok, on_no, on_done}
-use Rattle.terms.specs.Laws.Growth.{grown_tree, grown_args, grown_there}
-use Rattle.reading.specs.declared.apart.Out.{Out as Answer}
-use Rattle.reading.specs.declared.apart.Out.TheVariants.{Ok, No}
-use Rattle.induction.specs.Inducing.{Below, motive_in, Motived, Moved, MovedAs, Scratch, hyp_in, hyps_in, HypsMade}
-use Rattle.induction.proofs.Moves.{then_same, below_grown}
+use Rattle.terms.specs.Laws.Growth.{grown_tree, grown_args}
+use Rattle.reading.specs.Laws.Walks.{then_same}
+use Rattle.referring.specs.Substitutes.{Below}
+use Rattle.referring.specs.Laws.Substitutes.{below_grown}
+use Rattle.induction.specs.Inducing.{motive_in, Motived, Moved, hyp_in, hyps_in, HypsMade}
 
 -- Rows in the cells -------------------------------------------------------------------------------------------------------------------------
 
@@ -137,93 +137,101 @@ below_row n a w cells r before row last k l =
 
 -- The loop ------------------------------------------------------------------------------------------------------------------------------------
 
--- one of another sort
-skip_hyps : (M : Motive) (own sorts : List ℕ) (k : ℕ) → length sorts ≡ length own → k < length own → (get_or sorts k 0 ≡ M.sort → ⊥) → (U : Made) →
-    hypotheses M (drop k own) (drop k sorts) U ≡ hypotheses M (drop (suc k) own) (drop (suc k) sorts) U
-unfolding hypotheses
-skip_hyps M own sorts k e l q U =
-    (λ i. hypotheses M (drop-cons own k 0 l i) (drop-cons sorts k 0 (omega (arith, e, l)) i) U)
-    ∙ ap (λ (b : Bool). (elim b as (λ (z : Bool). Act Made (List Hyp)) [
-      | true ↦ λ B. then (hypothesis_at M (get_or own k 0) B) (λ y A. then (hypotheses M (drop (suc k) own) (drop (suc k) sorts) A) (λ ys B. ok (y ∷ ys) B))
-      | false ↦ hypotheses M (drop (suc k) own) (drop (suc k) sorts)
-    ]) U) (ne_eqb (get_or sorts k 0) M.sort q)
+module _ (M : Motive) (v : ℕ) (vs : List ℕ) (s : ℕ) (ss : List ℕ) (U : Made) where
+  abbrev next_hyps : Bool → Out Made (List Hyp)
+  next_hyps b = (elim b as (λ (z : Bool). Act Made (List Hyp)) [
+    | true ↦ λ B. then (hypothesis_at M v B) (λ y A. then (hypotheses M vs ss A) (λ ys C. ok (y ∷ ys) C))
+    | false ↦ hypotheses M vs ss
+  ]) U
 
--- one of the sort
-step_hyps : (M : Motive) (own sorts : List ℕ) (k : ℕ) → length sorts ≡ length own → k < length own → get_or sorts k 0 ≡ M.sort → (U : Made) →
-    hypotheses M (drop k own) (drop k sorts) U
-    ≡ then (hypothesis_at M (get_or own k 0) U) (λ y A. then (hypotheses M (drop (suc k) own) (drop (suc k) sorts) A) (λ ys B. ok (y ∷ ys) B))
-unfolding hypotheses
-step_hyps M own sorts k e l q U =
-    (λ i. hypotheses M (drop-cons own k 0 l i) (drop-cons sorts k 0 (omega (arith, e, l)) i) U)
-    ∙ ap (λ (b : Bool). (elim b as (λ (z : Bool). Act Made (List Hyp)) [
-      | true ↦ λ B. then (hypothesis_at M (get_or own k 0) B) (λ y A. then (hypotheses M (drop (suc k) own) (drop (suc k) sorts) A) (λ ys B. ok (y ∷ ys) B))
-      | false ↦ hypotheses M (drop (suc k) own) (drop (suc k) sorts)
-    ]) U) (eq-eqb (get_or sorts k 0) M.sort q)
+  -- one of another sort
+  skip_hyps : (s ≡ M.sort → ⊥) → hypotheses M (v ∷ vs) (s ∷ ss) U ≡ hypotheses M vs ss U
+  unfolding hypotheses
+  skip_hyps q = ap next_hyps (ne_eqb s M.sort q)
+
+  -- one of the sort
+  step_hyps : s ≡ M.sort → hypotheses M (v ∷ vs) (s ∷ ss) U ≡ then (hypothesis_at M v U) (λ y A. then (hypotheses M vs ss A) (λ ys C. ok (y ∷ ys) C))
+  unfolding hypotheses
+  step_hyps q = ap next_hyps (eq-eqb s M.sort q)
 
 -- what is answered of the rest, behind these
 abbrev pub behind_hyps : List Hyp → List Hyp → Made → Out Made (List Hyp)
 behind_hyps hs ys U = ok (hs ++ ys) U
 
-pub record Supposing (I W : List ℕ) (old : Mark) (x sort j : ℕ) (premises own sorts map₀ memo₀ ids₀ J X map memo ids : List ℕ) (now : Mark) (many at k : ℕ) : Type 0 where
+-- these variables and their sorts are left
+pub record Supposing (I W : List ℕ) (old : Mark) (x sort j : ℕ) (premises own sorts ids₀ J X ids : List ℕ) (now : Mark) (many at : ℕ) (vs ss : List ℕ) : Type 0 where
   pub on : On I W old (hypotheses (motive_in (made I W old) x sort j premises) own sorts (made I W old)) J X now
-      (then (hypotheses (motive_in (made I W old) x sort j premises) (drop k own) (drop k sorts) (made J X now))
-      (behind_hyps (hyps_in (made J X now) (length premises) many ids)))
+      (then (hypotheses (motive_in (made I W old) x sort j premises) vs ss (made J X now)) (behind_hyps (hyps_in (made J X now) (length premises) many ids)))
   pub known : Below now.terms (take (many * suc (length premises)) ids)
   pub place : at ≡ many * suc (length premises)
-  pub few : many ≤ k
-  pub near : k ≤ length own
+  pub small : Below VARIABLES vs
+  pub level : length ss ≡ length vs
+  pub few : many + length vs ≤ length own
   pub long : length ids ≡ length ids₀
-  pub map_same : map ≡ map₀
-  pub memo_same : memo ≡ memo₀
 
-module _ {I W : List ℕ} {old : Mark} {x j : ℕ} {premises own sorts map₀ memo₀ ids₀ : List ℕ} (sort : ℕ) (g : Motived I W old x j premises × Scratch map₀ memo₀)
-    (s : Below VARIABLES own × (length sorts ≡ length own) × (length own * suc (length premises) ≤ length ids₀)) where
-  pub supposing_start : Supposing I W old x sort j premises own sorts map₀ memo₀ ids₀ I W map₀ memo₀ ids₀ old 0 0 0
+module _ {I W : List ℕ} {old : Mark} {x j : ℕ} {premises own sorts ids₀ : List ℕ} (sort : ℕ) (g : Motived I W old x j premises)
+    (q : Below VARIABLES own × (length sorts ≡ length own) × (length own * suc (length premises) ≤ length ids₀)) where
+  pub supposing_start : {vs ss : List ℕ} → vs ≡ own → ss ≡ sorts → Supposing I W old x sort j premises own sorts ids₀ I W ids₀ old 0 0 vs ss
   unfolding hyps_in
-  supposing_start =
+  supposing_start {vs} {ss} ev es =
       record {
-        on = on_is (on_start g.0.good) (then_same (hypotheses (motive_in (made I W old) x sort j premises) own sorts (made I W old)));
+        on = on_is (on_start g.good)
+            (then_same (hypotheses (motive_in (made I W old) x sort j premises) own sorts (made I W old))
+            ∙ (λ i. then (hypotheses (motive_in (made I W old) x sort j premises) (sym ev i) (sym es i) (made I W old)) (behind_hyps [])));
         known = λ i l. absurd (let z : 0 * suc (length premises) ≡ 0 = omega arith in omega (arith, l, ap (λ (n : ℕ). length (take n ids₀)) z));
         place = omega arith;
-        few = omega arith;
-        near = omega arith;
+        small = subst (Below VARIABLES) (sym ev) q.0;
+        level = ap length es ∙ q.1 ∙ sym (ap length ev);
+        few = omega (arith, ap length ev);
         long = refl;
-        map_same = refl;
-        memo_same = refl;
       }
 
-  module _ {J X map memo ids : List ℕ} {now : Mark} {many at k : ℕ} (h : Supposing I W old x sort j premises own sorts map₀ memo₀ ids₀ J X map memo ids now many at k) where
-    pub supposing_done : length own ≤ k → HypsMade I W J X old (hypotheses (motive_in (made I W old) x sort j premises) own sorts (made I W old)) (length premises) (length own) ids many now
+  module _ {J X ids : List ℕ} {now : Mark} {many at : ℕ} {vs ss : List ℕ} (h : Supposing I W old x sort j premises own sorts ids₀ J X ids now many at vs ss) where
+    -- no variable is left
+    pub supposing_done : length vs ≡ 0 → HypsMade I W J X old (hypotheses (motive_in (made I W old) x sort j premises) own sorts (made I W old)) (length premises) (length own) ids many now
     unfolding hypotheses then
     supposing_done l =
         record {
           went = on_done (on_is h.on
-              (ap (λ (vs : List ℕ). then (hypotheses (motive_in (made I W old) x sort j premises) vs (drop k sorts) (made J X now)) (behind_hyps (hyps_in (made J X now) (length premises) many ids)))
-              (drop_of_length-le own l)
+              (ap (λ (us : List ℕ). then (hypotheses (motive_in (made I W old) x sort j premises) us ss (made J X now)) (behind_hyps (hyps_in (made J X now) (length premises) many ids))) (none_long vs l)
               ∙ ap (λ (hs : List Hyp). ok hs (made J X now)) (append-nil (hyps_in (made J X now) (length premises) many ids))));
           known = h.known;
-          few = omega (arith, h.few, h.near);
+          few = omega (arith, h.few);
         }
+      where
+        none_long : (us : List ℕ) → length us ≡ 0 → us ≡ []
+        none_long [] z = refl
+        none_long (u ∷ us) z = absurd (omega (arith, z))
 
-    module _ (l : k < length own) where
-      pub supposing_skip : (get_or sorts k 0 ≡ sort → ⊥) → Supposing I W old x sort j premises own sorts map₀ memo₀ ids₀ J X map memo ids now many at (k + 1)
-      supposing_skip q =
+    module _ {v s : ℕ} {vs' ss' : List ℕ} (ev : vs ≡ v ∷ vs') (es : ss ≡ s ∷ ss') where
+      left : On I W old (hypotheses (motive_in (made I W old) x sort j premises) own sorts (made I W old)) J X now
+          (then (hypotheses (motive_in (made I W old) x sort j premises) (v ∷ vs') (s ∷ ss') (made J X now)) (behind_hyps (hyps_in (made J X now) (length premises) many ids)))
+      left =
+          on_is h.on
+          (λ i. then (hypotheses (motive_in (made I W old) x sort j premises) (ev i) (es i) (made J X now)) (behind_hyps (hyps_in (made J X now) (length premises) many ids)))
+
+      level_left : length ss' ≡ length vs'
+      level_left = omega (arith, ap length ev, ap length es, h.level)
+
+      small_left : Below VARIABLES (v ∷ vs')
+      small_left = subst (Below VARIABLES) ev h.small
+
+      pub supposing_skip : (s ≡ sort → ⊥) → Supposing I W old x sort j premises own sorts ids₀ J X ids now many at vs' ss'
+      supposing_skip z =
           record {
-            on = on_is h.on
+            on = on_is left
                 (ap (λ (o : Out Made (List Hyp)). then o (behind_hyps (hyps_in (made J X now) (length premises) many ids)))
-                (skip_hyps (motive_in (made I W old) x sort j premises) own sorts k s.1 l q (made J X now)
-                ∙ ap (λ (n : ℕ). hypotheses (motive_in (made I W old) x sort j premises) (drop n own) (drop n sorts) (made J X now)) (sym (add-one k))));
+                (skip_hyps (motive_in (made I W old) x sort j premises) v vs' s ss' (made J X now) z));
             known = h.known;
             place = h.place;
-            few = omega (arith, h.few);
-            near = omega arith;
+            small = λ k l. small_left (suc k) (omega arith);
+            level = level_left;
+            few = omega (arith, h.few, ap length ev);
             long = h.long;
-            map_same = h.map_same;
-            memo_same = h.memo_same;
           }
 
       roomy : suc many * suc (length premises) ≤ length own * suc (length premises)
-      roomy = mul_mono (suc many) (length own) (suc (length premises)) (omega (arith, h.few, l))
+      roomy = mul_mono (suc many) (length own) (suc (length premises)) (omega (arith, h.few, ap length ev))
         where
           mul_mono : (a b c : ℕ) → a ≤ b → a * c ≤ b * c
           mul_mono zero b c p = omega arith
@@ -231,54 +239,30 @@ module _ {I W : List ℕ} {old : Mark} {x j : ℕ} {premises own sorts map₀ me
           mul_mono (suc a) (suc b) c p = let z = mul_mono a b c (omega arith) in omega (arith, z, suc-mul a c, suc-mul b c)
 
       pub supposing_room : at + length premises < length ids
-      supposing_room = omega (arith, roomy, rows_suc many (length premises), s.2, h.place, h.long)
+      supposing_room = omega (arith, roomy, rows_suc many (length premises), q.2, h.place, h.long)
 
-      pub supposing_given : (Motived J X now x j premises × (get_or own k 0 < VARIABLES))
-          × (Scratch map memo × (length (take (at + length premises - at) (drop at ids)) ≡ length premises))
-      supposing_given = (
-        (
-          record {
-            good = h.on.grown.good;
-            small = g.0.small;
-            there = grown_there h.on.grown j g.0.there;
-            known = below_grown premises h.on.grown.more g.0.known;
-            few = g.0.few;
-          },
-          s.0 k l,
-        ),
-        (
-          record { map_zero = h.map_same ∙ g.1.map_zero; memo_zero = h.memo_same ∙ g.1.memo_zero },
-          let z = mid_len at (at + length premises) ids (omega (arith, supposing_room)) in omega (arith, z),
-        ),
-      )
+      motive_same : motive_in (made J X now) x sort j premises ≡ motive_in (made I W old) x sort j premises
+      motive_same = λ i. record { variable = x; sort = sort; judgment = grown_tree h.on.grown j g.there i; premises = grown_args h.on.grown premises g.known i }
 
-      motive_same : motive_in (made J X now) x sort j premises ≡ (motive_in (made I W old) x sort j premises)
-      motive_same = λ i. record { variable = x; sort = sort; judgment = grown_tree h.on.grown j g.0.there i; premises = grown_args h.on.grown premises g.0.known i }
-
-      split : get_or sorts k 0 ≡ sort → On I W old (hypotheses (motive_in (made I W old) x sort j premises) own sorts (made I W old)) J X now
-          (then (hypothesis_at (motive_in (made J X now) x sort j premises) (get_or own k 0) (made J X now))
-          (λ y A. then (hypotheses (motive_in (made I W old) x sort j premises) (drop (suc k) own) (drop (suc k) sorts) A) (λ ys B. ok (hyps_in (made J X now) (length premises) many ids ++ (y ∷ ys)) B)))
+      split : s ≡ sort → On I W old (hypotheses (motive_in (made I W old) x sort j premises) own sorts (made I W old)) J X now
+          (then (hypothesis_at (motive_in (made J X now) x sort j premises) v (made J X now))
+          (λ y A. then (hypotheses (motive_in (made I W old) x sort j premises) vs' ss' A) (λ ys B. ok (hyps_in (made J X now) (length premises) many ids ++ (y ∷ ys)) B)))
       unfolding then
       split is =
-          on_is h.on
+          on_is left
           (ap (λ (o : Out Made (List Hyp)). then o (behind_hyps (hyps_in (made J X now) (length premises) many ids)))
-          (step_hyps (motive_in (made I W old) x sort j premises) own sorts k s.1 l is (made J X now))
-          ∙ then_then (hypothesis_at (motive_in (made I W old) x sort j premises) (get_or own k 0) (made J X now)) _ _
-          ∙ (λ i. then (hypothesis_at (sym motive_same i) (get_or own k 0) (made J X now))
-          (λ y A. then_then (hypotheses (motive_in (made I W old) x sort j premises) (drop (suc k) own) (drop (suc k) sorts) A) (λ ys B. ok (y ∷ ys) B) (behind_hyps (hyps_in (made J X now) (length premises) many ids)) i)))
+          (step_hyps (motive_in (made I W old) x sort j premises) v vs' s ss' (made J X now) is)
+          ∙ then_then (hypothesis_at (motive_in (made I W old) x sort j premises) v (made J X now)) _ _
+          ∙ (λ i. then (hypothesis_at (sym motive_same i) v (made J X now))
+          (λ y A. then_then (hypotheses (motive_in (made I W old) x sort j premises) vs' ss' A) (λ ys B. ok (y ∷ ys) B) (behind_hyps (hyps_in (made J X now) (length premises) many ids)) i)))
 
-      module _ (is : get_or sorts k 0 ≡ sort) (Y Z last : List ℕ) (r : Answer)
-          (a : (sort : ℕ) → MovedAs J X Y Z now (hypothesis_at (motive_in (made J X now) x sort j premises) (get_or own k 0) (made J X now)) last r) where
-        pub supposing_stopped : {q d : ℕ} {new : Mark} → r ≡ No q d new → Stopped I W Y Z old (hypotheses (motive_in (made I W old) x sort j premises) own sorts (made I W old)) q d new
-        supposing_stopped e = on_no _ (split is) (subst (MovedAs J X Y Z now (hypothesis_at (motive_in (made J X now) x sort j premises) (get_or own k 0) (made J X now)) last) e (a sort))
+      module _ (is : s ≡ sort) {Y Z : List ℕ} {new : Mark} where
+        pub supposing_stopped : {r d : ℕ} → Stopped J X Y Z now (hypothesis_at (motive_in (made J X now) x sort j premises) v (made J X now)) r d new →
+            Stopped I W Y Z old (hypotheses (motive_in (made I W old) x sort j premises) own sorts (made I W old)) r d new
+        supposing_stopped a = on_no _ (split is) a
 
-        module _ {t : ℕ} {new : Mark} (e : r ≡ Ok t new) (longs : length last ≡ length (take (at + length premises - at) (drop at ids))) where
-          moved : Moved J X Y Z now (hypothesis_at (motive_in (made J X now) x sort j premises) (get_or own k 0) (made J X now)) last t new
-          moved = subst (MovedAs J X Y Z now (hypothesis_at (motive_in (made J X now) x sort j premises) (get_or own k 0) (made J X now)) last) e (a sort)
-
-          pub supposing_small : t < TERMS
-          supposing_small = omega (arith, moved.there, moved.went.grown.good.room)
-
+        module _ {last : List ℕ} {t : ℕ} (moved : Moved J X Y Z now (hypothesis_at (motive_in (made J X now) x sort j premises) v (made J X now)) last t new)
+            (longs : length last ≡ length (take (at + length premises - at) (drop at ids))) where
           same_front : take (many * suc (length premises)) (written ids last at (length premises) t supposing_room longs) ≡ take (many * suc (length premises)) ids
           same_front =
               ap (λ (n : ℕ). take n (written ids last at (length premises) t supposing_room longs)) (sym h.place)
@@ -310,27 +294,18 @@ module _ {I W : List ℕ} {old : Mark} {x j : ℕ} {premises own sorts map₀ me
               (subst (Below new.terms) (sym (written_row ids last at w t supposing_room longs)) moved.known)
               (subst (λ (v : ℕ). v < new.terms) (sym (written_last ids last at w t supposing_room longs)) moved.there))
 
-          pub supposing_again : (map' memo' : List ℕ) → (map' ≡ map) × (memo' ≡ memo) →
-              Supposing I W old x sort j premises own sorts map₀ memo₀ ids₀ Y Z map' memo' (written ids last at (length premises) t supposing_room longs) new (many + 1)
-              (at + length premises + 1) (k + 1)
-          supposing_again map' memo' same =
-              let ids' = written ids last at (length premises) t supposing_room longs in
+          pub supposing_again : Supposing I W old x sort j premises own sorts ids₀ Y Z (written ids last at (length premises) t supposing_room longs) new (many + 1)
+              (at + length premises + 1) vs' ss'
+          supposing_again =
               record {
                 on = on_is (on_ok _ (split is) moved.went)
-                    (ap (λ (f : List Hyp → Made → Out Made (List Hyp)). then (hypotheses (motive_in (made I W old) x sort j premises) (drop (suc k) own) (drop (suc k) sorts) (made Y Z new)) f)
+                    (ap (λ (f : List Hyp → Made → Out Made (List Hyp)). then (hypotheses (motive_in (made I W old) x sort j premises) vs' ss' (made Y Z new)) f)
                     (λ i ys B. ok ((sym (append_assoc (hyps_in (made J X now) (length premises) many ids) (hyp_in (made Y Z new) t last ∷ []) ys)
-                    ∙ ap (λ (hs : List Hyp). hs ++ ys) (sym rows)) i) B)
-                    ∙ ap (λ (o : Out Made (List Hyp)). then o (behind_hyps (hyps_in (made Y Z new) (length premises) (many + 1) ids')))
-                    (ap (λ (n : ℕ). hypotheses (motive_in (made I W old) x sort j premises) (drop n own) (drop n sorts) (made Y Z new)) (sym (add-one k))));
+                    ∙ ap (λ (hs : List Hyp). hs ++ ys) (sym rows)) i) B));
                 known = known_again;
                 place = omega (arith, h.place, rows_suc many (length premises), ap (λ (n : ℕ). n * suc (length premises)) (add-one many));
-                few = omega (arith, h.few);
-                near = omega arith;
+                small = λ k l. small_left (suc k) (omega arith);
+                level = level_left;
+                few = omega (arith, h.few, ap length ev);
                 long = written_long ids last at (length premises) t supposing_room longs ∙ h.long;
-                map_same = same.0 ∙ h.map_same;
-                memo_same = same.1 ∙ h.memo_same;
               }
-
--- the cells are as many when a row is back
-pub lent_as_long : (ids last : List ℕ) (at w : ℕ) → length last ≡ length (mid_of at (at + w - at) ids) → length (put_mid at (at + w - at) ids last) ≡ length ids
-lent_as_long ids last at w e = same_len_mid at (at + w - at) ids last e

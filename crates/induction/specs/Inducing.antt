@@ -1,19 +1,21 @@
 -- What the form `induct` is given and what its parts answer: the motive in the store, a case's terms, and what a case may rest on. Assumes nothing.
-use Rattle.std.specs.Prelude.{◌≡◌, Bool, true, false, ◌&&◌, ◌||◌, List, [], ◌∷◌, ℕ, zero, suc, ◌*◌, ◌<◌, ◌≤◌, eqb, length, get_or, take, drop, replicate, Result, Ok, Err}
-use Rattle.rules.specs.Limits.{ARGUMENTS, VARIABLES, TERMS, FACTS, SYMBOLS, VARIABLEWORDS, TERMWORDS, FACTWORDS}
+use Rattle.std.specs.Prelude.{◌≡◌, Bool, true, false, ◌&&◌, ◌||◌, List, [], ◌∷◌, ℕ, zero, suc, ◌*◌, ◌<◌, ◌≤◌, eqb, length, get_or, take, drop, Some as some, None as nothing, Result, Ok, Err}
+use Rattle.rules.specs.Limits.{ARGUMENTS, VARIABLES, FACTS, SYMBOLS, VARIABLEWORDS, TERMWORDS, FACTWORDS}
 use Rattle.rules.specs.Out.{Out, ok, refuse, Act, ◌>>=◌, pure, ask}
 use Rattle.rules.specs.Find.{entry, any, all}
-use Rattle.rules.specs.Sexp.{Sexp, Sexps, cons, count}
+use Rattle.rules.specs.Sexp.{Sexp, Sexps, cons, count, item, rest}
 use Rattle.rules.specs.Tree.{Tree, Trees, var, app, none, more, same_tree, among, single}
 use Rattle.rules.specs.Store.{Made, keep, substitute, substitutes}
 use Rattle.rules.specs.Theory.{constructors}
-use Rattle.rules.specs.State.{State, is_none}
+use Rattle.rules.specs.State.{State, Var, is_none}
 use Rattle.rules.specs.Reference.{fact_at}
-use Rattle.rules.specs.Induct.{Motive, motive_vars, keep_vars, Hyp, hypotheses, allowed_hyp, induct_cases}
+use Rattle.rules.specs.Induct.{Motive, motive_vars, keep_vars, Hyp, hypotheses, allowed_hyp, induct_case, induct_cases}
 use Rattle.sexp.specs.Items.{Holds}
+use Rattle.sexp.specs.WalkLaws.{Walk}
 use Rattle.questions.specs.Numbers.{row_number, number_of, detail_of}
 use Rattle.questions.specs.declared.Row.{Row}
 use Rattle.questions.specs.declared.Question.{Question}
+use Rattle.questions.specs.declared.Question.TheVariants.{Binding}
 use Rattle.terms.specs.declared.store.Mark.{Mark}
 use Rattle.terms.specs.declared.store.Store.{Store}
 use Rattle.terms.specs.Table.{made, tree, args_of, Good}
@@ -21,15 +23,21 @@ use Rattle.terms.specs.Node.{same_words}
 use Rattle.terms.specs.Sets.{holds}
 use Rattle.terms.specs.On.{Went, Stopped}
 use Rattle.state.specs.declared.sizes.Sizes.{Sizes}
-use Rattle.state.specs.Held.{VarsHeld, names, records, Recorded}
+use Rattle.state.specs.Held.{Names, VarsHeld, Spelling, records, Recorded}
 use Rattle.state.specs.Rows.{cell}
-use Rattle.reading.specs.declared.apart.Out.{Out as Answer}
-use Rattle.reading.specs.declared.apart.Out.TheVariants as answer
+use Rattle.reading.specs.declared.reader.Reader.{Reader}
+use Rattle.reading.specs.Reader.{names_of}
+use Rattle.reading.specs.Items.{variable_in}
 use Rattle.referring.specs.declared.source.Facts.{Facts}
+use Rattle.referring.specs.declared.source.Source.{Source}
+use Rattle.referring.specs.Sources.{source_names}
 use Rattle.referring.specs.Recall.{Refers}
 use Rattle.referring.specs.Substitutes.{Below, Replaceables}
 use Rattle.induction.specs.declared.motive.Motive.{Motive as Statement}
+use Rattle.induction.specs.declared.motive.Rows.{Rows}
 use Rattle.induction.specs.declared.resting.Allowed.{Allowed}
+use Rattle.induction.specs.declared.induct_cases.Case.{Case}
+use Rattle.induction.specs.declared.induct.Subject.{Subject}
 
 -- cells for numbers of terms
 abbrev pub IDS : ℕ
@@ -40,9 +48,12 @@ abbrev pub Roomy : ℕ → List ℕ → Type 0
 Roomy width ids = ARGUMENTS * suc width ≤ length ids
 
 -- K answers, or refuses; what is answered is of no use
-abbrev pub PassedAs : List ℕ → List ℕ → List ℕ → List ℕ → Mark → Out Made (Unit {0}) → Answer → Type 0
-PassedAs I W J X old K (answer.Ok k new) = Went I W J X old K tt new
-PassedAs I W J X old K (answer.No q d new) = Stopped I W J X old K q d new
+abbrev pub PassedBy : List ℕ → List ℕ → List ℕ → List ℕ → Mark → Mark → Out Made (Unit {0}) → Result (Unit {0}) Question → Type 0
+PassedBy I W J X old new K (Ok _) = Went I W J X old K tt new
+PassedBy I W J X old new K (Err q) = Stopped I W J X old K (number_of q) (detail_of q) new
+
+abbrev pub PassedAs : Store → Store → Out Made (Unit {0}) → Result (Unit {0}) Question → Type 0
+PassedAs s t K r = PassedBy s.index.now s.words.now t.index.now t.words.now s.mark t.mark K r
 
 -- The motive -------------------------------------------------------------------------------------------------------------------------
 
@@ -135,11 +146,6 @@ at_constructor M c vs = do
   t ← keep_case c vs
   judgment_first (single M.variable t) M.judgment M.premises
 
--- the scratch, zero before and after
-pub record Scratch (map memo : List ℕ) : Type 0 where
-  pub map_zero : map ≡ replicate VARIABLES 0
-  pub memo_zero : memo ≡ replicate TERMS 0
-
 -- Induction hypotheses ---------------------------------------------------------------------------------------------------------------
 
 -- so many in the cells: each has k premises, and its judgment behind them
@@ -188,6 +194,7 @@ pub record Resting (facts lists : List ℕ) (n : Sizes) (plain used : List ℕ) 
   pub wide : length used ≡ VARIABLEWORDS
   pub plain_are : (t : ℕ) → t < m.terms → holds plain t ≡ plain_at M ps (hyps_in (made I W m) k many ids) (tree I W m t)
   pub long : length plain ≡ TERMWORDS
+  pub narrow : k ≤ FACTS
   pub room : many * suc k ≤ length ids
   pub known : Below m.terms (take (many * suc k) ids)
 
@@ -211,9 +218,13 @@ pub record BeforeRest (facts lists : List ℕ) (n : Sizes) (plain used : List �
   pub wide : length used ≡ VARIABLEWORDS
   pub plain_are : (t : ℕ) → t < m.terms → holds plain t ≡ among ps (tree I W m t)
   pub long : length plain ≡ TERMWORDS
+  pub narrow : k ≤ FACTS
   pub room : many * suc k ≤ length ids
   pub known : Below m.terms (take (many * suc k) ids)
   pub there : j < m.terms
+
+abbrev pub RestsIn : Facts → List ℕ → List ℕ → ℕ → Rows → ℕ → Type 0
+RestsIn f plain used x a j = BeforeRest f.rows.now f.lists.now f.n plain used x a.width a.cells.now a.many j
 
 -- fact i concludes the case, and rests on what it may
 unfoldable pub case_fact : State → Motive → Trees → List Hyp → ℕ → Tree → Act Made (Unit {0})
@@ -236,6 +247,13 @@ case_terms S M i c vs ss = do
   ihs ← hypotheses M vs ss
   case_fact S M h.premises ihs i h.judgment
 
+-- the case's variables: as many of the cells as there are sorts
+abbrev pub own_of : Case → List ℕ
+own_of k = take (length k.sorts.now) k.own
+
+abbrev pub case_behind : State → Motive → Case → Act Made (Unit {0})
+case_behind S M k = case_terms S M k.fact k.constructor (own_of k) k.sorts.now
+
 -- facts and terms, the motive with the set of its variables
 pub record InCase (facts lists : List ℕ) (n : Sizes) (I W : List ℕ) (m : Mark) (x sort j : ℕ) (premises used : List ℕ) : Type 0 where
   pub S : State
@@ -244,6 +262,13 @@ pub record InCase (facts lists : List ℕ) (n : Sizes) (I W : List ℕ) (m : Mar
   pub motived : Motived I W m x j premises
   pub used_are : holds used ≡ motive_vars (motive_in (made I W m) x sort j premises)
   pub wide : length used ≡ VARIABLEWORDS
+
+abbrev pub CaseIn : Facts → Store → Statement → List ℕ → Type 0
+CaseIn f s m used = InCase f.rows.now f.lists.now f.n s.index.now s.words.now s.mark m.x m.sort m.judgment m.premises.now used
+
+-- the case's constructor can be kept over its variables
+abbrev pub Cased : Store → Case → Type 0
+Cased s k = Casing s.index.now s.words.now s.mark k.constructor (own_of k) × (length k.sorts.now ≡ length (own_of k))
 
 -- variables, and the cells hold as many items as there are sorts
 pub record CaseNames (goals text vars : List ℕ) (count-vars : ℕ) (sorts used cells : List ℕ) : Type 0 where
@@ -255,37 +280,56 @@ pub record CaseNames (goals text vars : List ℕ) (count-vars : ℕ) (sorts used
   pub few : length sorts ≤ ARGUMENTS
   pub wide : length used ≡ VARIABLEWORDS
 
--- the case's variables, or none
-abbrev pub case_named : Bool → List ℕ → Made → Out Made (List ℕ)
-case_named true vs U = ok vs U
-case_named false vs U = refuse 42 0 U
+abbrev pub NamesIn : Reader → List ℕ → List ℕ → List ℕ → Type 0
+NamesIn r sorts used cells = CaseNames r.goals.now r.text.now r.vars.now r.n.vars sorts used cells
 
--- texts and tables, the motive with the set of its variables, and the cells begin with an item
-pub record CaseItem (goals text symbols inputs vars facts lists : List ℕ) (n : Sizes) (I W : List ℕ) (m : Mark) (x sort j : ℕ) (premises used cells : List ℕ) : Type 0 where
+-- K answers the case's variables, which are so many of the cells
+pub record Named (K : Act Made (List ℕ)) (many : ℕ) (own : List ℕ) : Type 0 where
+  pub are : (U : Made) → K U ≡ ok (take many own) U
+  pub small : Below VARIABLES (take many own)
+  pub long : length own ≡ ARGUMENTS
+
+abbrev pub NamedAs : Act Made (List ℕ) → ℕ → Result (List ℕ) Question → Type 0
+NamedAs K many (Ok own) = Named K many own
+NamedAs K many (Err q) = (U : Made) → K U ≡ refuse (number_of q) (detail_of q) U
+
+-- texts and tables, the set of the motive's variables, and the cells begin with an item
+pub record CaseItem (K : Names) (n : Sizes) (used cells : List ℕ) : Type 0 where
   pub S : State
-  pub theory : List ℕ
-  pub defs : List ℕ
-  pub footings : List ℕ
+  pub trees : Made
   pub y : Sexp
   pub ys : Sexps
-  pub refers : Refers (names theory goals text symbols inputs vars defs) facts footings lists n I W m S
-  pub motived : Motived I W m x j premises
-  pub used_are : holds used ≡ motive_vars (motive_in (made I W m) x sort j premises)
+  pub spelling : Spelling K n trees S
   pub wide : length used ≡ VARIABLEWORDS
-  pub items : Holds text cells (cons y ys)
+  pub items : Holds K.text cells (cons y ys)
 
--- and the cells hold some items
-pub record CaseItems (goals text symbols inputs vars facts lists : List ℕ) (n : Sizes) (I W : List ℕ) (m : Mark) (x sort j : ℕ) (premises used cells : List ℕ) : Type 0 where
+abbrev pub ReadsCase : Reader → List ℕ → List ℕ → Type 0
+ReadsCase r used cells = CaseItem (names_of r) r.n used cells
+
+-- the item y spells the case of constructor c over these variables, of these sorts, by fact i
+pub record CaseRead (S : State) (M : Motive) (y : Sexp) (c i : ℕ) (own sorts : List ℕ) : Type 0 where
+  pub is : (U : Made) → induct_case S M y c U ≡ case_terms S M i c own sorts U
+  pub narrow : length own ≤ ARGUMENTS
+  pub small : Below VARIABLES own
+  pub many : length sorts ≡ length own
+
+abbrev pub CaseAs : State → Motive → Sexp → ℕ → Result Case Question → Type 0
+CaseAs S M y c (Ok k) = CaseRead S M y c k.fact (own_of k) k.sorts.now × (k.constructor ≡ c)
+CaseAs S M y c (Err q) = (U : Made) → induct_case S M y c U ≡ refuse (number_of q) (detail_of q) U
+
+-- texts and tables, the motive with the set of its variables, and the cells hold some items
+pub record CaseItems (K : Names) (facts footings lists : List ℕ) (n : Sizes) (I W : List ℕ) (m : Mark) (x sort j : ℕ) (premises used cells : List ℕ) : Type 0 where
   pub S : State
-  pub theory : List ℕ
-  pub defs : List ℕ
-  pub footings : List ℕ
   pub xs : Sexps
-  pub refers : Refers (names theory goals text symbols inputs vars defs) facts footings lists n I W m S
+  pub refers : Refers K facts footings lists n I W m S
   pub motived : Motived I W m x j premises
   pub used_are : holds used ≡ motive_vars (motive_in (made I W m) x sort j premises)
   pub wide : length used ≡ VARIABLEWORDS
-  pub items : Holds text cells xs
+  pub items : Holds K.text cells xs
+
+abbrev pub ReadsCases : Source → Store → Statement → List ℕ → List ℕ → Type 0
+ReadsCases s t m used cells =
+    CaseItems (source_names s) s.rows.now s.footings.now s.lists.now s.reader.n t.index.now t.words.now t.mark m.x m.sort m.judgment m.premises.now used cells
 
 -- The form ---------------------------------------------------------------------------------------------------------------------------
 
@@ -297,25 +341,45 @@ on_motive S M cs = do
   induct_cases S M cs (constructors S.theory M.sort)
 
 -- texts and tables, the motive, and the cells hold some items
-pub record MotiveItems (goals text symbols inputs vars facts lists : List ℕ) (n : Sizes) (I W : List ℕ) (m : Mark) (x j : ℕ) (premises cells : List ℕ) : Type 0 where
+pub record MotiveItems (K : Names) (facts footings lists : List ℕ) (n : Sizes) (I W : List ℕ) (m : Mark) (x j : ℕ) (premises cells : List ℕ) : Type 0 where
   pub S : State
-  pub theory : List ℕ
-  pub defs : List ℕ
-  pub footings : List ℕ
   pub xs : Sexps
-  pub refers : Refers (names theory goals text symbols inputs vars defs) facts footings lists n I W m S
+  pub refers : Refers K facts footings lists n I W m S
   pub motived : Motived I W m x j premises
-  pub items : Holds text cells xs
+  pub items : Holds K.text cells xs
 
--- texts and tables, a variable, and the cells begin with two items
-pub record InductForm (theory goals text symbols inputs vars defs facts lists : List ℕ) (n : Sizes) (I W : List ℕ) (m : Mark) (x : ℕ) (hyps cells : List ℕ) : Type 0 where
+abbrev pub ReadsMotive : Source → Store → Statement → List ℕ → Type 0
+ReadsMotive s t m cells =
+    MotiveItems (source_names s) s.rows.now s.footings.now s.lists.now s.reader.n t.index.now t.words.now t.mark m.x m.judgment m.premises.now cells
+
+-- texts and tables, a variable, a set of facts, and the cells begin with two items
+pub record InductForm (K : Names) (facts footings lists : List ℕ) (n : Sizes) (I W : List ℕ) (m : Mark) (x : ℕ) (hyps cells : List ℕ) : Type 0 where
   pub S : State
-  pub footings : List ℕ
   pub y : Sexp
   pub z : Sexp
   pub zs : Sexps
-  pub refers : Refers (names theory goals text symbols inputs vars defs) facts footings lists n I W m S
+  pub refers : Refers K facts footings lists n I W m S
   pub variable_known : x < length S.vars
   pub earlier : (v : ℕ) → holds hyps v ≡ true → v < length S.facts
   pub long : length hyps ≡ FACTWORDS
-  pub items : Holds text cells (cons y (cons z zs))
+  pub items : Holds K.text cells (cons y (cons z zs))
+
+abbrev pub ReadsInduct : Source → Store → ℕ → List ℕ → List ℕ → Type 0
+ReadsInduct s t x hyps cells =
+    InductForm (source_names s) s.rows.now s.footings.now s.lists.now s.reader.n t.index.now t.words.now t.mark x hyps cells
+
+-- variables, and the cells hold the items of a form, its variable among them
+pub record SubjectItems (goals text vars : List ℕ) (count-vars : ℕ) (cells : List ℕ) : Type 0 where
+  pub S : State
+  pub xs : Sexps
+  pub held : VarsHeld goals text vars count-vars S.vars
+  pub holds : Holds text cells xs
+  pub many : 3 ≤ count xs
+
+abbrev pub ReadsSubject : Reader → List ℕ → Type 0
+ReadsSubject r cells = SubjectItems r.goals.now r.text.now r.vars.now r.n.vars cells
+
+-- the form's variable, and the items from it on stand there; or it names none
+abbrev pub SubjectAs : List Var → List ℕ → List ℕ → Sexps → Result Subject Question → Type 0
+SubjectAs vs text cells xs (Ok s) = (variable_in vs (item xs 2) ≡ some s.x) × Walk text cells s.at (rest xs 2)
+SubjectAs vs text cells xs (Err q) = (variable_in vs (item xs 2) ≡ nothing) × (q ≡ Binding)

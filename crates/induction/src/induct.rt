@@ -1,343 +1,223 @@
 // `(induct N X (HYP...) JUDGMENT (CASE...))`, HYPs or none: structural induction on the variable X. One case a constructor of its sort, in order:
 // `(INDEX VAR...)`, a fact that concludes the judgment at the constructor over the case's variables.
-ghost use Rattle.std.specs.Prelude.{◌≡◌, ℕ, ◌*◌, ◌≤◌, length, take, replicate};
-ghost use Rattle.rules.specs.Limits.{FACTS, FACTWORDS, VARIABLEWORDS, RULEWORDS};
+ghost use Rattle.std.specs.Prelude.{◌≡◌, ◌*◌, ◌≤◌, length, take, replicate};
+ghost use Rattle.rules.specs.Limits.{TERMS, FACTS, FACTWORDS};
 ghost use Rattle.rules.specs.Find.{rising};
-ghost use Rattle.rules.specs.State.{Fact, sort_of_var};
+ghost use Rattle.rules.specs.State.{Fact};
 ghost use Rattle.rules.specs.Induct.{motive_vars, induct_on, induct, induct_with};
-ghost use Rattle.terms.specs.Table.{made};
+ghost use Rattle.terms.specs.Lent.{SameTables, made_of, terms_made};
 ghost use Rattle.terms.specs.Sets.{holds};
-ghost use Rattle.state.specs.Held.{names};
-ghost use Rattle.referring.specs.Derived.{FactForm, Blank, DerivedAs, alone};
-ghost use Rattle.induction.specs.Inducing.{IDS, Roomy, PassedAs, motive_in, Motived, judgment_cells, Scratch, on_motive, MotiveItems, InductForm};
+ghost use Rattle.referring.specs.Sources.{ReadsForm};
+ghost use Rattle.referring.specs.Derived.{DerivedAs, alone};
+ghost use Rattle.induction.specs.Inducing.{IDS, Roomy, PassedAs, motive_of, Motived, judgment_cells, on_motive, ReadsMotive, ReadsInduct, ReadsSubject, SubjectAs};
 
 use crate::induct_cases::induct_cases;
+use crate::motive::Motive;
 use cells::clear;
 use kernel::readers::constructors;
-use reading::apart::{Listed, Out, judgment, plain_hyps, variable};
-use referring::derived::Derived;
+use questions::Question;
+use reading::hyps::plain_hyps;
+use reading::reader::Reader;
 use referring::scope::visit_all;
-use rules::{ARGUMENTS, FACTS, TERMWORDS, VARIABLEWORDS};
+use referring::source::Source;
+use referring::support::{Derived, Support};
+use rules::{ARGUMENTS, FACTS, FACTWORDS, RULEWORDS, TERMWORDS, VARIABLEWORDS};
 use sexp::items;
 use sexp::items::Item;
 use state::facts::judgment as judgment_of;
-use state::sizes::Sizes;
 use state::vars::var_sort;
-use terms::apart::visit;
 use terms::sets::{has, write_out};
-use terms::store::Mark;
+use terms::store::{Store, Terms};
+use terms::variables::visit;
 
 // Cells for the numbers of the induction hypotheses' terms: a case has at most ARGUMENTS of them, of at most FACTS premises and a judgment each.
 pub const IDS: usize = 40960;
 
+// The variable of a form, and where it stands.
+#[derive(Clone, Copy)]
+struct Subject {
+    x: usize,
+    at: usize,
+}
+
+// That of the form whose items the cells hold.
+fn read_subject(reader: &Reader<'_>, cells: &[u32]) -> Result<Subject, Question>
+    requires { ReadsSubject reader.now cells.now }
+    ensures { (g : ReadsSubject reader.now cells.now) → SubjectAs g.S.vars reader.now.text.now cells.now g.xs result }
+{
+    let at = items::place(cells, 2);
+    let Some(x) = reader.variable(&cells[at..]) else {
+        return Err(Question::Binding);
+    };
+    Ok(Subject { x, at })
+}
+
 // The judgments of the facts, by rising number, come into the first cells of `out`; what is answered is how many they are.
-fn judgments_of(facts: &[u32], hyps: &[u64], out: &mut [u32]) -> usize
-    requires { (length facts.now ≡ 6 * FACTS) × (length hyps.now ≡ FACTWORDS) × (length out.old ≡ FACTS) }
-    ensures { (result ≤ FACTS) × (take result out.new ≡ judgment_cells facts.now (rising FACTS (holds hyps.now))) }
+fn judgments_of(rows: &[u32], hyps: &[u64], out: &mut [u32]) -> usize
+    requires { (length rows.now ≡ 6 * FACTS) × (length hyps.now ≡ FACTWORDS) × (length out.old ≡ FACTS) }
+    ensures { (result ≤ FACTS) × (take result out.new ≡ judgment_cells rows.now (rising FACTS (holds hyps.now))) }
 {
     let count = write_out(hyps, out);
-    for k in 0..count {
-        out[k] = judgment_of(facts, out[k] as usize) as u32;
+    for cell in out[..count].iter_mut() {
+        *cell = judgment_of(rows, *cell as usize) as u32;
     }
     count
 }
 
-// The variables of the motive join the set.
-fn motive_vars(
-    index: &[u32],
-    words: &[u32],
-    mark: Mark,
-    x: usize,
-    judgment: usize,
-    premises: &[u32],
-    set: &mut [u64],
-)
-    requires { Motived index.now words.now mark x judgment premises.now × (set.old ≡ replicate VARIABLEWORDS 0) }
-    ensures { (sort : ℕ) → holds set.new ≡ motive_vars (motive_in (made index.now words.now mark) x sort judgment premises.now) }
-{
-    let mut seen = [0u64; TERMWORDS];
-    visit(index, words, mark, judgment, &mut seen, set);
-    visit_all(index, words, mark, premises, &mut seen, set);
+impl Motive<'_> {
+    // Its variables.
+    fn vars(&self, terms: &Terms<'_>) -> [u64; VARIABLEWORDS]
+        requires { let t = terms.now in Motived t.index.now t.words.now t.mark self.now.x self.now.judgment self.now.premises.now }
+        ensures { holds result ≡ motive_vars (motive_of (terms_made terms.now) self.now) }
+    {
+        let mut set = [0u64; VARIABLEWORDS];
+        let mut seen = [0u64; TERMWORDS];
+        visit(terms, self.judgment, &mut seen, &mut set);
+        visit_all(terms, self.premises, &mut seen, &mut set);
+        set
+    }
 }
 
-// The cases of the motive: questions 41 and 45, then each case. `ids` is scratch, of whatever content.
+// The cases of the motive: whether there are as many as constructors, and whether its variable occurs in it; then each case. `memo` is scratch: zero
+// before and after; so is `ids`, of whatever content.
 fn motive_cases(
-    goals: &[u8],
-    text: &[u8],
-    symbols: &[u32],
-    inputs: &[u32],
-    vars: &[u32],
-    facts: &[u32],
-    lists: &[u32],
-    n: Sizes,
-    index: &mut [u32],
-    words: &mut [u32],
-    mark: Mark,
+    source: &Source<'_>,
+    store: &mut Store<'_>,
     cells: &[u32],
-    x: usize,
-    judgment: usize,
-    premises: &[u32],
-    map: &mut [u32],
+    motive: &Motive<'_>,
     memo: &mut [u32],
     ids: &mut [u32],
-) -> Out
-    requires motive_items { MotiveItems goals.now text.now symbols.now inputs.now vars.now facts.now lists.now n index.old words.old mark x judgment premises.now cells.now }
-    requires scratch { Scratch map.old memo.old × Roomy (length premises.now) ids.old }
-    ensures passed_as { (g : MotiveItems goals.now text.now symbols.now inputs.now vars.now facts.now lists.now n index.old words.old mark x judgment premises.now cells.now) →
-        PassedAs index.old words.old index.new words.new mark (on_motive g.S (motive_in (made index.old words.old mark) x (sort_of_var g.S.vars x) judgment premises.now) g.xs (made index.old words.old mark)) result }
-    ensures map_unchanged { (map.new ≡ map.old) × (memo.new ≡ memo.old) }
+) -> Result<(), Question>
+    requires motive_items { ReadsMotive source.now store.old motive.now cells.now }
+    requires scratch { (memo.old ≡ replicate TERMS 0) × Roomy (length motive.now.premises.now) ids.old }
+    ensures same_tables { SameTables store.old store.new }
+    ensures passed_as { (g : ReadsMotive source.now store.old motive.now cells.now) →
+        PassedAs store.old store.new (on_motive g.S (motive_of (made_of store.old) motive.now) g.xs (made_of store.old)) result }
+    ensures memo_unchanged { memo.new ≡ memo.old }
 {
-    let sort = var_sort(vars, x);
-    if items::count(cells) != constructors(symbols, n.symbols, sort) {
-        return Out::No(41, 0, mark);
+    let reader = &source.reader;
+    if items::count(cells) != constructors(reader.symbols, reader.n.symbols, motive.sort) {
+        return Err(Question::Cases);
     }
-    let mut used = [0u64; VARIABLEWORDS];
-    motive_vars(index, words, mark, x, judgment, premises, &mut used);
-    if !has(&used, x) {
-        return Out::No(45, 0, mark);
+    let used = motive.vars(&store.terms());
+    if !has(&used, motive.x) {
+        return Err(Question::InductionVariable);
     }
-    induct_cases(
-        goals, text, symbols, inputs, vars, facts, lists, n, index, words, mark, cells, x, sort,
-        judgment, premises, &used, map, memo, ids,
-    )
+    induct_cases(source, store, cells, motive, &used, memo, ids)
 }
 
 // The same, with as many cells of `ids` as a case of the motive can need, which are cleared behind the cases: zero before and after.
 fn on_motive(
-    goals: &[u8],
-    text: &[u8],
-    symbols: &[u32],
-    inputs: &[u32],
-    vars: &[u32],
-    facts: &[u32],
-    lists: &[u32],
-    n: Sizes,
-    index: &mut [u32],
-    words: &mut [u32],
-    mark: Mark,
+    source: &Source<'_>,
+    store: &mut Store<'_>,
     cells: &[u32],
-    x: usize,
-    judgment: usize,
-    premises: &[u32],
-    map: &mut [u32],
+    motive: &Motive<'_>,
     memo: &mut [u32],
     ids: &mut [u32],
-) -> Out
-    requires motive_items { MotiveItems goals.now text.now symbols.now inputs.now vars.now facts.now lists.now n index.old words.old mark x judgment premises.now cells.now }
-    requires scratch { Scratch map.old memo.old × (ids.old ≡ replicate IDS 0) }
-    ensures passed_as { (g : MotiveItems goals.now text.now symbols.now inputs.now vars.now facts.now lists.now n index.old words.old mark x judgment premises.now cells.now) →
-        PassedAs index.old words.old index.new words.new mark (on_motive g.S (motive_in (made index.old words.old mark) x (sort_of_var g.S.vars x) judgment premises.now) g.xs (made index.old words.old mark)) result }
-    ensures map_unchanged { (map.new ≡ map.old) × (memo.new ≡ memo.old) × (ids.new ≡ ids.old) }
+) -> Result<(), Question>
+    requires motive_items { ReadsMotive source.now store.old motive.now cells.now }
+    requires scratch { (memo.old ≡ replicate TERMS 0) × (ids.old ≡ replicate IDS 0) }
+    ensures same_tables { SameTables store.old store.new }
+    ensures passed_as { (g : ReadsMotive source.now store.old motive.now cells.now) →
+        PassedAs store.old store.new (on_motive g.S (motive_of (made_of store.old) motive.now) g.xs (made_of store.old)) result }
+    ensures memo_unchanged { (memo.new ≡ memo.old) × (ids.new ≡ ids.old) }
 {
-    let width = premises.len();
+    let width = motive.premises.len();
     let room = ARGUMENTS * (width + 1);
-    let answer = motive_cases(
-        goals,
-        text,
-        symbols,
-        inputs,
-        vars,
-        facts,
-        lists,
-        n,
-        index,
-        words,
-        mark,
-        cells,
-        x,
-        judgment,
-        premises,
-        map,
-        memo,
-        &mut ids[..room],
-    );
+    let result = motive_cases(source, store, cells, motive, memo, &mut ids[..room]);
     clear(&mut ids[..room]);
-    answer
+    result
 }
 
 // The rest of the form, from its judgment on, behind its variable and its hypotheses, which are a set of facts.
 fn induct_on(
-    theory: &[u8],
-    goals: &[u8],
-    text: &[u8],
-    symbols: &[u32],
-    inputs: &[u32],
-    vars: &[u32],
-    defs: &[u32],
-    facts: &[u32],
-    lists: &[u32],
-    n: Sizes,
-    index: &mut [u32],
-    words: &mut [u32],
-    mark: Mark,
+    source: &Source<'_>,
+    store: &mut Store<'_>,
     cells: &[u32],
     x: usize,
-    hyps: &[u64],
-    map: &mut [u32],
+    hyps: [u64; FACTWORDS],
     memo: &mut [u32],
     ids: &mut [u32],
-) -> Derived
-    requires induct_form { InductForm theory.now goals.now text.now symbols.now inputs.now vars.now defs.now facts.now lists.now n index.old words.old mark x hyps.now cells.now }
-    requires scratch { Scratch map.old memo.old × (ids.old ≡ replicate IDS 0) }
-    ensures derived_as { (g : InductForm theory.now goals.now text.now symbols.now inputs.now vars.now defs.now facts.now lists.now n index.old words.old mark x hyps.now cells.now) →
-        DerivedAs Fact index.old words.old index.new words.new mark g.S (induct_on g.S x (rising (length g.S.facts) (holds hyps.now)) g.y g.z (made index.old words.old mark)) alone hyps.now (replicate RULEWORDS 0) result }
-    ensures map_unchanged { (map.new ≡ map.old) × (memo.new ≡ memo.old) × (ids.new ≡ ids.old) }
+) -> Result<Derived, Question>
+    requires induct_form { ReadsInduct source.now store.old x hyps cells.now }
+    requires scratch { (memo.old ≡ replicate TERMS 0) × (ids.old ≡ replicate IDS 0) }
+    ensures same_tables { SameTables store.old store.new }
+    ensures derived_as { (g : ReadsInduct source.now store.old x hyps cells.now) →
+        DerivedAs Fact store.old store.new g.S (induct_on g.S x (rising (length g.S.facts) (holds hyps)) g.y g.z (made_of store.old)) alone result }
+    ensures memo_unchanged { (memo.new ≡ memo.old) × (ids.new ≡ ids.old) }
 {
-    match judgment(
-        theory, goals, text, symbols, inputs, vars, defs, n, index, words, mark, cells,
-    ) {
-        Out::Ok(j, new) => {
-            let next = items::after(cells, 0);
-            let Item::List(a, b) = items::item_at(cells, next) else {
-                return Derived::No(41, 0, new);
-            };
-            let mut premises = [0u32; FACTS];
-            let width = judgments_of(facts, hyps, &mut premises);
-            match on_motive(
-                goals,
-                text,
-                symbols,
-                inputs,
-                vars,
-                facts,
-                lists,
-                n,
-                index,
-                words,
-                new,
-                &cells[a..b],
-                x,
-                j,
-                &premises[..width],
-                map,
-                memo,
-                ids,
-            ) {
-                Out::Ok(_, last) => Derived::Ok(j, 0, last),
-                Out::No(q, d, last) => Derived::No(q, d, last),
-            }
-        }
-        Out::No(q, d, new) => Derived::No(q, d, new),
-    }
+    let reader = &source.reader;
+    let judgment = reader.judgment(store, cells)?;
+    let next = items::after(cells, 0);
+    let Item::List(a, b) = items::item_at(cells, next) else {
+        return Err(Question::Cases);
+    };
+    let mut premises = [0u32; FACTS];
+    let width = judgments_of(source.rows, &hyps, &mut premises);
+    let motive = Motive {
+        x,
+        sort: var_sort(reader.vars, x),
+        judgment,
+        premises: &premises[..width],
+    };
+    on_motive(source, store, &cells[a..b], &motive, memo, ids)?;
+    Ok(Derived {
+        judgment,
+        instances: 0,
+        support: Support {
+            hyps,
+            footing: [0; RULEWORDS],
+        },
+    })
 }
 
-// The form without hypotheses, whose items the cells hold. `map`, `memo` and `ids` are scratch: zero before and after. The sets are empty before; afterwards
-// they are the fact's, where one is answered.
+// The form without hypotheses, whose items the cells hold. `memo` and `ids` are scratch: zero before and after.
 pub fn induct(
-    theory: &[u8],
-    goals: &[u8],
-    text: &[u8],
-    symbols: &[u32],
-    inputs: &[u32],
-    vars: &[u32],
-    defs: &[u32],
-    facts: &[u32],
-    footings: &[u64],
-    lists: &[u32],
-    n: Sizes,
-    index: &mut [u32],
-    words: &mut [u32],
-    mark: Mark,
+    source: &Source<'_>,
+    store: &mut Store<'_>,
     cells: &[u32],
-    map: &mut [u32],
     memo: &mut [u32],
     ids: &mut [u32],
-    hyps: &mut [u64],
-    footing: &mut [u64],
-) -> Derived
-    requires fact_form { FactForm (names theory.now goals.now text.now symbols.now inputs.now vars.now defs.now) facts.now footings.now lists.now n index.old words.old mark cells.now 5 }
-    requires blank { Blank map.old memo.old hyps.old footing.old × (ids.old ≡ replicate IDS 0) }
-    ensures derived_as { (g : FactForm (names theory.now goals.now text.now symbols.now inputs.now vars.now defs.now) facts.now footings.now lists.now n index.old words.old mark cells.now 5) →
-        DerivedAs Fact index.old words.old index.new words.new mark g.S (induct g.S g.xs (made index.old words.old mark)) alone hyps.new footing.new result }
-    ensures map_unchanged { (map.new ≡ map.old) × (memo.new ≡ memo.old) × (ids.new ≡ ids.old) }
+) -> Result<Derived, Question>
+    requires reads { ReadsForm source.now store.old cells.now 5 }
+    requires scratch { (memo.old ≡ replicate TERMS 0) × (ids.old ≡ replicate IDS 0) }
+    ensures same_tables { SameTables store.old store.new }
+    ensures derived_as { (g : ReadsForm source.now store.old cells.now 5) →
+        DerivedAs Fact store.old store.new g.S (induct g.S g.xs (made_of store.old)) alone result }
+    ensures memo_unchanged { (memo.new ≡ memo.old) × (ids.new ≡ ids.old) }
 {
-    let at = items::place(cells, 2);
-    let Some(x) = variable(goals, text, vars, n.vars, &cells[at..]) else {
-        return Derived::No(36, 0, mark);
-    };
+    let Subject { x, at } = read_subject(&source.reader, cells)?;
     let next = items::after(cells, at);
-    induct_on(
-        theory,
-        goals,
-        text,
-        symbols,
-        inputs,
-        vars,
-        defs,
-        facts,
-        lists,
-        n,
-        index,
-        words,
-        mark,
-        &cells[next..],
-        x,
-        hyps,
-        map,
-        memo,
-        ids,
-    )
+    let hyps = [0; FACTWORDS];
+    induct_on(source, store, &cells[next..], x, hyps, memo, ids)
 }
 
 // The form with hypotheses.
 pub fn induct_with(
-    theory: &[u8],
-    goals: &[u8],
-    text: &[u8],
-    symbols: &[u32],
-    inputs: &[u32],
-    vars: &[u32],
-    defs: &[u32],
-    facts: &[u32],
-    footings: &[u64],
-    lists: &[u32],
-    n: Sizes,
-    index: &mut [u32],
-    words: &mut [u32],
-    mark: Mark,
+    source: &Source<'_>,
+    store: &mut Store<'_>,
     cells: &[u32],
-    map: &mut [u32],
     memo: &mut [u32],
     ids: &mut [u32],
-    hyps: &mut [u64],
-    footing: &mut [u64],
-) -> Derived
-    requires fact_form { FactForm (names theory.now goals.now text.now symbols.now inputs.now vars.now defs.now) facts.now footings.now lists.now n index.old words.old mark cells.now 6 }
-    requires blank { Blank map.old memo.old hyps.old footing.old × (ids.old ≡ replicate IDS 0) }
-    ensures derived_as { (g : FactForm (names theory.now goals.now text.now symbols.now inputs.now vars.now defs.now) facts.now footings.now lists.now n index.old words.old mark cells.now 6) →
-        DerivedAs Fact index.old words.old index.new words.new mark g.S (induct_with g.S g.xs (made index.old words.old mark)) alone hyps.new footing.new result }
-    ensures map_unchanged { (map.new ≡ map.old) × (memo.new ≡ memo.old) × (ids.new ≡ ids.old) }
+) -> Result<Derived, Question>
+    requires reads { ReadsForm source.now store.old cells.now 6 }
+    requires scratch { (memo.old ≡ replicate TERMS 0) × (ids.old ≡ replicate IDS 0) }
+    ensures same_tables { SameTables store.old store.new }
+    ensures derived_as { (g : ReadsForm source.now store.old cells.now 6) →
+        DerivedAs Fact store.old store.new g.S (induct_with g.S g.xs (made_of store.old)) alone result }
+    ensures memo_unchanged { (memo.new ≡ memo.old) × (ids.new ≡ ids.old) }
 {
-    let at = items::place(cells, 2);
-    let Some(x) = variable(goals, text, vars, n.vars, &cells[at..]) else {
-        return Derived::No(36, 0, mark);
-    };
+    let reader = &source.reader;
+    let Subject { x, at } = read_subject(reader, cells)?;
     let third = items::after(cells, at);
-    match plain_hyps(text, facts, n, &cells[third..], hyps) {
-        Listed::Ok => {
-            let next = items::after(cells, third);
-            induct_on(
-                theory,
-                goals,
-                text,
-                symbols,
-                inputs,
-                vars,
-                defs,
-                facts,
-                lists,
-                n,
-                index,
-                words,
-                mark,
-                &cells[next..],
-                x,
-                hyps,
-                map,
-                memo,
-                ids,
-            )
-        }
-        Listed::No(q) => Derived::No(q, 0, mark),
-    }
+    let mut hyps = [0; FACTWORDS];
+    plain_hyps(
+        reader.text,
+        source.rows,
+        reader.n,
+        &cells[third..],
+        &mut hyps,
+    )?;
+    let next = items::after(cells, third);
+    induct_on(source, store, &cells[next..], x, hyps, memo, ids)
 }

@@ -1,5 +1,6 @@
 // What a case of `induct` may rest on: plain hypotheses by a set of terms, rule hypotheses by the numbers of the induction hypotheses.
 ghost use Rattle.std.specs.Prelude.{◌≡◌, ◌&&◌, not, suc, ◌*◌, ◌<◌, ◌≤◌, eqb, length};
+ghost use Rattle.rules.specs.Limits.{FACTS};
 ghost use Rattle.rules.specs.Find.{all, entry};
 ghost use Rattle.rules.specs.Induct.{allowed_rule, allowed_hyp};
 ghost use Rattle.terms.specs.Table.{made, tree};
@@ -12,10 +13,7 @@ ghost use Rattle.induction.specs.Inducing.{hyps_in, row_among, RestingIn, case_f
 use crate::motive::Rows;
 use questions::Question;
 use referring::source::Facts;
-use state::facts::{
-    general, hyps as hyps_of, is_assumed, is_fact, is_plain, judgment as judgment_of,
-    premises as premises_of,
-};
+use state::facts::{is_assumed, is_fact, is_plain, judgment};
 use terms::sets::has;
 
 // Plain hypotheses whose judgments are in the set of terms, and rule hypotheses that are an induction hypothesis, over variables that are in the other set,
@@ -31,16 +29,13 @@ pub struct Allowed<'a> {
 impl Rows<'_> {
     // Whether some row has these premises and this judgment.
     fn has(&self, own: &[u32], judgment: usize) -> bool
-        requires { self.now.many * suc self.now.width ≤ length self.now.cells.now }
+        requires { (self.now.many * suc self.now.width ≤ length self.now.cells.now) × (self.now.width ≤ FACTS) }
         ensures { result ≡ row_among self.now.width self.now.many self.now.cells.now own.now judgment }
     {
-        let mut at = 0;
-        for _ in 0..self.many {
-            let end = at + self.width;
-            if self.cells[end] as usize == judgment && &self.cells[at..end] == own {
+        for row in self.cells.chunks_exact(self.width + 1).take(self.many) {
+            if row[self.width] as usize == judgment && &row[..self.width] == own {
                 return true;
             }
-            at = end + 1;
         }
         false
     }
@@ -52,8 +47,13 @@ impl Allowed<'_> {
         requires { Below (64 * length self.now.used.now) own.now }
         ensures { result ≡ all (λ g. holds self.now.used.now g && not (eqb g self.now.x)) own.now }
     {
-        own.iter()
-            .all(|v| has(self.used, *v as usize) && *v as usize != self.x)
+        for v in own {
+            let v = *v as usize;
+            if !has(self.used, v) || v == self.x {
+                return false;
+            }
+        }
+        true
     }
 
     // Whether the case may rest on hypothesis h as a rule.
@@ -65,17 +65,10 @@ impl Allowed<'_> {
         if !is_assumed(facts.rows, h) {
             return false;
         }
-        let own = general(facts.rows, h);
-        let from = own.from;
-        let end = own.end;
-        if !self.generalises(&facts.lists[from..end]) {
+        if !self.generalises(facts.general(h)) {
             return false;
         }
-        let ps = premises_of(facts.rows, h);
-        let first = ps.from;
-        let last = ps.end;
-        self.rows
-            .has(&facts.lists[first..last], judgment_of(facts.rows, h))
+        self.rows.has(facts.premises(h), judgment(facts.rows, h))
     }
 
     // Whether it may rest on hypothesis h.
@@ -85,7 +78,7 @@ impl Allowed<'_> {
             result ≡ allowed_hyp g.M g.ps (hyps_in (made g.I g.W g.m) self.now.rows.width self.now.rows.many self.now.rows.cells.now) (entry g.S.facts h) }
     {
         if is_plain(facts.rows, h) {
-            return has(self.plain, judgment_of(facts.rows, h));
+            return has(self.plain, judgment(facts.rows, h));
         }
         self.rule(facts, h)
     }
@@ -96,10 +89,7 @@ impl Allowed<'_> {
         ensures { (g : RestingIn facts.now self.now) →
             result ≡ all (λ h. allowed_hyp g.M g.ps (hyps_in (made g.I g.W g.m) self.now.rows.width self.now.rows.many self.now.rows.cells.now) (entry g.S.facts h)) (fact_of g.S i).hyps }
     {
-        let own = hyps_of(facts.rows, i);
-        let from = own.from;
-        let end = own.end;
-        for h in &facts.lists[from..end] {
+        for h in facts.hyps(i) {
             if !self.hyp(facts, *h as usize) {
                 return false;
             }
@@ -107,16 +97,16 @@ impl Allowed<'_> {
         true
     }
 
-    // Whether fact i is there, is the case's judgment, and rests on what it may.
-    pub fn case_fact(&self, facts: &Facts<'_>, i: usize, judgment: usize) -> Result<(), Question>
+    // Whether fact i is there, concludes t, and rests on what it may.
+    pub fn case_fact(&self, facts: &Facts<'_>, i: usize, t: usize) -> Result<(), Question>
         requires { RestingIn facts.now self.now }
-        ensures { (g : RestingIn facts.now self.now) → judgment < g.m.terms →
-            case_fact g.S g.M g.ps (hyps_in (made g.I g.W g.m) self.now.rows.width self.now.rows.many self.now.rows.cells.now) i (tree g.I g.W g.m judgment) (made g.I g.W g.m) ≡ asked result (made g.I g.W g.m) }
+        ensures { (g : RestingIn facts.now self.now) → t < g.m.terms →
+            case_fact g.S g.M g.ps (hyps_in (made g.I g.W g.m) self.now.rows.width self.now.rows.many self.now.rows.cells.now) i (tree g.I g.W g.m t) (made g.I g.W g.m) ≡ asked result (made g.I g.W g.m) }
     {
         if !is_fact(facts.n, i) {
             return Err(Question::Earlier);
         }
-        if judgment_of(facts.rows, i) != judgment {
+        if judgment(facts.rows, i) != t {
             return Err(Question::CaseJudgment);
         }
         if !self.hyps(facts, i) {

@@ -16,7 +16,7 @@ use Rattle.rules.specs.Store.{Made}
 use Rattle.rules.specs.Theory.{Theory, RuleVar, rule}
 use Rattle.rules.specs.State.{Var}
 use Rattle.rules.specs.TheoryTables.{filled}
-use Rattle.rules.specs.Invert.{Case, suit}
+use Rattle.rules.specs.Invert.{Case, read_case, suit}
 use Rattle.rules.specs.Laws.Theory.{all_at}
 use Rattle.sexp.specs.Never.{never}
 use Rattle.sexp.specs.WalkLaws.{walk_rest}
@@ -27,10 +27,7 @@ use Rattle.state.specs.Filled.{filled_front}
 use Rattle.reading.specs.Given.{VarsItem}
 use Rattle.reading.specs.Laws.Lists.{Listing, vars_listed, listing_few}
 use Rattle.casework.specs.declared.cases.CaseRead.{CaseRead}
-use Rattle.std.specs.Prelude.{Result, Ok, Err}
-use Rattle.questions.specs.declared.Question.{Question}
-use Rattle.questions.specs.Numbers.{number_of}
-use Rattle.casework.specs.Cases.{CaseIs, CaseAs}
+use Rattle.casework.specs.Cases.{CaseIs}
 use Rattle.casework.specs.Context.{There}
 use Rattle.inversion.specs.InvertRules.{RuleVarsGiven, CaseVarsGiven, CaseVarsAre}
 use Rattle.casework.specs.Laws.CaseItems.{item_reads}
@@ -58,109 +55,107 @@ module _ {goals text vars rulevars : List ℕ} {count : ℕ} {cells : List ℕ} 
   abbrev pub case_given : VarsItem goals text vars count (take (length cells - p) (drop p cells))
   case_given = record { S = g.S; x = g.x; ys = g.ys; vars_are = g.vars_are; holds = walk_rest g.walk }
 
-  module _ (before out : List ℕ) (a : Result CaseRead Question)
-      (f : (w : VarsItem goals text vars count (take (length cells - p) (drop p cells))) → CaseAs w.S text w.x before out a) where
-    pub case_never : {A : Type 0} {q : Question} → a ≡ Err q → A
-    case_never {A} {q} e =
-        no_answer g.c (number_of q) 0 []
-        (sym (item_reads g.S g.x g.c g.case []) ∙ (subst (λ (z : Result CaseRead Question). CaseAs g.S text g.x before out z) e (f case_given)).0 [])
+  -- it is read
+  pub case_never : {A : Type 0} {q d : ℕ} → ((w : VarsItem goals text vars count (take (length cells - p) (drop p cells))) → (M : Made) → read_case w.S w.x M ≡ refuse q d M) → A
+  case_never {q = q} {d} f = no_answer g.c q d [] (sym (item_reads g.S g.x g.c g.case []) ∙ f case_given [])
 
-    module _ {one : CaseRead} (e : a ≡ Ok one) where
-      read : CaseIs g.S text g.x out one.start one.fact one.variables
-      read = subst (λ (z : Result CaseRead Question). CaseAs g.S text g.x before out z) e (f case_given)
+  module _ (out : List ℕ) {one : CaseRead}
+      (f : (w : VarsItem goals text vars count (take (length cells - p) (drop p cells))) → CaseIs w.S text w.x out one.start one.fact one.variables) where
+    read : CaseIs g.S text g.x out one.start one.fact one.variables
+    read = f case_given
 
-      same_case : read.c ≡ g.c
-      same_case = one_answer read.c g.c [] (sym (read.read []) ∙ item_reads g.S g.x g.c g.case [])
+    same_case : read.c ≡ g.c
+    same_case = one_answer read.c g.c [] (sym (read.read []) ∙ item_reads g.S g.x g.c g.case [])
 
-      fact_is : one.fact ≡ g.c.fact
-      fact_is = read.number ∙ ap (λ (c : Case). c.fact) same_case
+    fact_is : one.fact ≡ g.c.fact
+    fact_is = read.number ∙ ap (λ (c : Case). c.fact) same_case
 
-      pub case_many : one.variables ≡ length g.c.vars
-      case_many = read.count ∙ ap (λ (c : Case). length c.vars) same_case
+    pub case_many : one.variables ≡ length g.c.vars
+    case_many = read.count ∙ ap (λ (c : Case). length c.vars) same_case
 
-      listed : Listing (length g.S.vars) g.c.vars
-      listed = vars_listed g.S.vars (item g.case.inner 2) g.c.vars g.case.vars
+    listed : Listing (length g.S.vars) g.c.vars
+    listed = vars_listed g.S.vars (item g.case.inner 2) g.c.vars g.case.vars
 
-      few_vars : length g.S.vars ≤ VARIABLES
-      few_vars = omega (arith, g.vars_are.stand.many, g.vars_are.stand.few)
+    few_vars : length g.S.vars ≤ VARIABLES
+    few_vars = omega (arith, g.vars_are.stand.many, g.vars_are.stand.few)
 
-      out_is : out ≡ filled VARIABLES g.c.vars
-      out_is = read.cells_are ∙ ap (λ (c : Case). filled VARIABLES c.vars) same_case
+    out_is : out ≡ filled VARIABLES g.c.vars
+    out_is = read.cells_are ∙ ap (λ (c : Case). filled VARIABLES c.vars) same_case
 
-      fits : length g.c.vars ≤ VARIABLES
-      fits = omega (arith, listing_few listed, few_vars)
+    fits : length g.c.vars ≤ VARIABLES
+    fits = omega (arith, listing_few listed, few_vars)
 
-      pub case_fits : one.variables ≤ VARIABLES
-      case_fits = omega (arith, case_many, fits)
+    pub case_fits : one.variables ≤ VARIABLES
+    case_fits = omega (arith, case_many, fits)
 
-      out_long : length out ≡ VARIABLES
-      out_long =
-          let z = fits in
-          ap length (out_is ∙ filled_fits VARIABLES g.c.vars fits)
-          ∙ omega (arith, length-append g.c.vars (replicate (VARIABLES - length g.c.vars) 0), length-replicate {A = ℕ} (VARIABLES - length g.c.vars) 0)
+    out_long : length out ≡ VARIABLES
+    out_long =
+        let z = fits in
+        ap length (out_is ∙ filled_fits VARIABLES g.c.vars fits)
+        ∙ omega (arith, length-append g.c.vars (replicate (VARIABLES - length g.c.vars) 0), length-replicate {A = ℕ} (VARIABLES - length g.c.vars) 0)
 
-      pub case_room : one.variables ≤ length out
-      case_room = omega (arith, case_fits, out_long)
+    pub case_room : one.variables ≤ length out
+    case_room = omega (arith, case_fits, out_long)
 
-      pub case_long : one.variables ≡ length (take one.variables out)
-      case_long = sym (length-take-le one.variables out case_room)
+    pub case_long : one.variables ≡ length (take one.variables out)
+    case_long = sym (length-take-le one.variables out case_room)
 
-      own_is : take one.variables out ≡ g.c.vars
-      own_is = ap (λ (k : ℕ). take k out) case_many ∙ ap (take (length g.c.vars)) out_is ∙ filled_front VARIABLES g.c.vars fits
+    own_is : take one.variables out ≡ g.c.vars
+    own_is = ap (λ (k : ℕ). take k out) case_many ∙ ap (take (length g.c.vars)) out_is ∙ filled_front VARIABLES g.c.vars fits
 
-      pub case_there : There VARIABLES (take one.variables out)
-      case_there k l =
-          let z = few_vars in
-          subst (λ (xs : List ℕ). get_or xs k 0 < VARIABLES) (sym own_is)
-          (omega (arith, all_at g.c.vars k 0 listed.below (subst (λ (xs : List ℕ). k < length xs) own_is l), z))
+    pub case_there : There VARIABLES (take one.variables out)
+    case_there k l =
+        let z = few_vars in
+        subst (λ (xs : List ℕ). get_or xs k 0 < VARIABLES) (sym own_is)
+        (omega (arith, all_at g.c.vars k 0 listed.below (subst (λ (xs : List ℕ). k < length xs) own_is l), z))
 
-      pub case_words : (taken : List ℕ) → length taken ≡ VARIABLEWORDS → There (64 * length taken) (take one.variables out)
-      case_words taken t k l = omega (arith, case_there k l, t)
+    pub case_words : (taken : List ℕ) → length taken ≡ VARIABLEWORDS → There (64 * length taken) (take one.variables out)
+    case_words taken t k l = omega (arith, case_there k l, t)
 
-      -- what `suits` asks
-      pub case_suits : RuleVarsGiven rulevars r need × ((vs : List Var) × (count : ℕ) × VarCells vars count vs) × There VARIABLES (take one.variables out)
-      case_suits = (g.rule_vars_lem, (g.S.vars, count, g.vars_are.stand), case_there)
+    -- what `suits` asks
+    pub case_suits : RuleVarsGiven rulevars r need × ((vs : List Var) × (count : ℕ) × VarCells vars count vs) × There VARIABLES (take one.variables out)
+    case_suits = (g.rule_vars_lem, (g.S.vars, count, g.vars_are.stand), case_there)
 
-      abbrev rs : List RuleVar
-      rs = (rule g.S.theory r).vars
+    abbrev rs : List RuleVar
+    rs = (rule g.S.theory r).vars
 
-      module _ {b : Bool}
-          (s : (h : RuleVarsGiven rulevars r need) (vs : List Var) (count : ℕ) → VarCells vars count vs → b ≡ suit vs (take one.variables out) (rule h.T r).vars) where
-        suits_is : b ≡ suit g.S.vars g.c.vars rs
-        suits_is = s g.rule_vars_lem g.S.vars count g.vars_are.stand ∙ (λ i. suit g.S.vars (own_is i) (rule (g.theory i) r).vars)
+    module _ {b : Bool}
+        (s : (h : RuleVarsGiven rulevars r need) (vs : List Var) (count : ℕ) → VarCells vars count vs → b ≡ suit vs (take one.variables out) (rule h.T r).vars) where
+      suits_is : b ≡ suit g.S.vars g.c.vars rs
+      suits_is = s g.rule_vars_lem g.S.vars count g.vars_are.stand ∙ (λ i. suit g.S.vars (own_is i) (rule (g.theory i) r).vars)
 
-        pub case_unsuited : (taken : List ℕ) → not b ≡ true → suit g.S.vars g.c.vars rs && all (λ v. not (holds taken v)) g.c.vars ≡ false
-        case_unsuited taken q = and_false (suit g.S.vars g.c.vars rs) (all (λ v. not (holds taken v)) g.c.vars) (sym suits_is ∙ not-true b q)
+      pub case_unsuited : (taken : List ℕ) → not b ≡ true → suit g.S.vars g.c.vars rs && all (λ v. not (holds taken v)) g.c.vars ≡ false
+      case_unsuited taken q = and_false (suit g.S.vars g.c.vars rs) (all (λ v. not (holds taken v)) g.c.vars) (sym suits_is ∙ not-true b q)
 
-        module _ (q : not b ≡ false) where
-          suited : suit g.S.vars g.c.vars rs ≡ true
-          suited = sym suits_is ∙ not-false b q
+      module _ (q : not b ≡ false) where
+        suited : suit g.S.vars g.c.vars rs ≡ true
+        suited = sym suits_is ∙ not-false b q
 
-          as_many : length g.c.vars ≡ length rs
-          as_many = suit_length g.S.vars g.c.vars rs suited
+        as_many : length g.c.vars ≡ length rs
+        as_many = suit_length g.S.vars g.c.vars rs suited
 
-          needed : need ≡ length rs
-          needed = g.rule_vars_lem.many ∙ ap (λ (T : Theory). length (rule T r).vars) g.theory
+        needed : need ≡ length rs
+        needed = g.rule_vars_lem.many ∙ ap (λ (T : Theory). length (rule T r).vars) g.theory
 
-          pub case_short : (list : List ℕ) → length list ≡ RULEVARS → length (take one.variables out) ≤ length list
-          case_short list n = omega (arith, n, g.few, needed, as_many, ap length own_is)
+        pub case_short : (list : List ℕ) → length list ≡ RULEVARS → length (take one.variables out) ≤ length list
+        case_short list n = omega (arith, n, g.few, needed, as_many, ap length own_is)
 
-          module _ (taken : List ℕ) {d : Bool} (n : d ≡ all (λ v. not (holds taken v)) (take one.variables out)) where
-            news : d ≡ all (λ v. not (holds taken v)) g.c.vars
-            news = n ∙ ap (all (λ v. not (holds taken v))) own_is
+        module _ (taken : List ℕ) {d : Bool} (n : d ≡ all (λ v. not (holds taken v)) (take one.variables out)) where
+          news : d ≡ all (λ v. not (holds taken v)) g.c.vars
+          news = n ∙ ap (all (λ v. not (holds taken v))) own_is
 
-            pub case_taken : not d ≡ true → suit g.S.vars g.c.vars rs && all (λ v. not (holds taken v)) g.c.vars ≡ false
-            case_taken z =
-                and_true (suit g.S.vars g.c.vars rs) (all (λ v. not (holds taken v)) g.c.vars) suited ∙ sym news ∙ not-true d z
+          pub case_taken : not d ≡ true → suit g.S.vars g.c.vars rs && all (λ v. not (holds taken v)) g.c.vars ≡ false
+          case_taken z =
+              and_true (suit g.S.vars g.c.vars rs) (all (λ v. not (holds taken v)) g.c.vars) suited ∙ sym news ∙ not-true d z
 
-            pub case_new : {taken' : List ℕ} (list : List ℕ) {list' : List ℕ} → not d ≡ false → holds taken' ≡ union (holds taken) (has (take one.variables out)) →
-                list' ≡ take one.variables out ++ drop (length (take one.variables out)) list → CaseVarsAre g.S rs g.c taken taken' list' one.fact
-            case_new list z u w =
-                record {
-                  suits = suited;
-                  new = sym news ∙ not-false d z;
-                  fact_is = fact_is;
-                  many = as_many;
-                  numbers = ap (take (length rs)) w ∙ take_front (take one.variables out) (drop (length (take one.variables out)) list) (length rs) (sym as_many ∙ sym (ap length own_is)) ∙ own_is;
-                  takes = u ∙ ap (λ (xs : List ℕ). union (holds taken) (has xs)) own_is;
-                }
+          pub case_new : {taken' : List ℕ} (list : List ℕ) {list' : List ℕ} → not d ≡ false → holds taken' ≡ union (holds taken) (has (take one.variables out)) →
+              list' ≡ take one.variables out ++ drop (length (take one.variables out)) list → CaseVarsAre g.S rs g.c taken taken' list' one.fact
+          case_new list z u w =
+              record {
+                suits = suited;
+                new = sym news ∙ not-false d z;
+                fact_is = fact_is;
+                many = as_many;
+                numbers = ap (take (length rs)) w ∙ take_front (take one.variables out) (drop (length (take one.variables out)) list) (length rs) (sym as_many ∙ sym (ap length own_is)) ∙ own_is;
+                takes = u ∙ ap (λ (xs : List ℕ). union (holds taken) (has xs)) own_is;
+              }

@@ -1,14 +1,14 @@
 -- A case of `invert` is judged under the unifier: what it may rest on, then its fact; and a rule with a case. Assumes nothing.
 use mathlib.Core.Path.{◌≡◌, refl, sym, ap, ◌∙◌, subst}
 use mathlib.Core.Bool.{Bool, true, false}
-use Rattle.std.specs.Prelude.{Option, None as nothing}
+use Rattle.std.specs.Prelude.{Option, None as nothing, Ok, Err}
 use mathlib.Core.List.{List, ◌++◌}
 use Prim.Native.Nat.{ℕ, ◌*◌, ◌<◌, ◌≤◌}
 use native.Mathlib.Omega.{arith}
 use lib.Dec.{ltb}
 use lib.ListN.{length, get_or, replicate}
 use borrow.Author.Tests.{lt-ltb, ltb-true}
-use Rattle.rules.specs.Limits.{TERMS, VARIABLES, FACTS, TERMWORDS, FACTWORDS}
+use Rattle.rules.specs.Limits.{TERMS, FACTS, TERMWORDS, FACTWORDS}
 use Rattle.rules.specs.Out.{Out, then}
 use Rattle.rules.specs.Tree.{Tree}
 use Rattle.rules.specs.Store.{Made, substitute}
@@ -17,8 +17,6 @@ use Rattle.rules.specs.Theory.{Theory, rule}
 use Rattle.rules.specs.Invert.{Allowed, renaming, rule_premises, context_facts}
 use Rattle.rules.specs.Laws.Theory.{all_at}
 use Rattle.terms.specs.declared.store.Mark.{Mark}
-use Rattle.unification.specs.declared.apart.Unified.{Unified}
-use Rattle.unification.specs.declared.apart.Unified.TheVariants as unified
 use Rattle.terms.specs.Table.{made, tree, Grown}
 use Rattle.terms.specs.Sets.{holds}
 use Rattle.terms.specs.Subst.{replacement}
@@ -33,32 +31,13 @@ use Rattle.state.specs.Rows.{hyps_span}
 use Rattle.state.specs.Entries.{part}
 use Rattle.state.specs.RowTables.{tabled_long}
 use Rattle.state.specs.FactLaws.{facts_tabled}
-use Rattle.reading.specs.declared.apart.Bound.{Bound}
-use Rattle.reading.specs.declared.apart.Bound.TheVariants as bound
 use Rattle.referring.specs.Recall.{fact_of, Recalls}
-use Rattle.casework.specs.Context.{There, ContextGiven, ContextRead, all_of, PremisesRead, PremisesAs}
-use Rattle.inversion.specs.InvertRules.{Judging, judged, judges, own_span, Verdict, verdict_of, JudgedAs, Having, has_case, meets, Met, MetAs}
+use Rattle.casework.specs.Context.{There, ContextGiven, ContextRead, all_of, PremisesRead}
+use Rattle.inversion.specs.InvertRules.{Judging, judged, judges, own_span, Verdict, verdict_of, JudgedBy, Having, has_case, meets, Met, MetBy}
 use Rattle.casework.specs.Laws.Facts.{recalls_grown}
 use Rattle.casework.specs.Laws.Rows.{row, lists_are}
-use Rattle.inversion.proofs.InvertRests.{rests_all, said, said_none, said_no, said_is, asked}
-
--- by the variant
-module _ (I W J X : List ℕ) (old : Mark) (K : Out Made (List Allowed)) (set set' : List ℕ) (r : Bound) (a : PremisesAs I W J X old K set set' r) where
-  pub premises_ok : {new : Mark} → r ≡ bound.Ok new → PremisesRead I W J X old K set set' new
-  premises_ok e = subst (λ (z : Bound). PremisesAs I W J X old K set set' z) e a
-
-  pub premises_no : {q d : ℕ} {new : Mark} → r ≡ bound.No q d new → Stopped I W J X old K q d new
-  premises_no e = subst (λ (z : Bound). PremisesAs I W J X old K set set' z) e a
-
-module _ (I W J X : List ℕ) (old : Mark) (K : Out Made (Option (List Binding))) (list cells theta : List ℕ) (u : Unified) (a : MetAs I W J X old K list cells theta u) where
-  pub met_found : {new : Mark} → u ≡ unified.Found new → Met I W J X old K list cells theta new
-  met_found e = subst (λ (z : Unified). MetAs I W J X old K list cells theta z) e a
-
-  pub met_apart : {new : Mark} → u ≡ unified.Apart new → Went I W J X old K nothing new × (theta ≡ replicate VARIABLES 0)
-  met_apart e = subst (λ (z : Unified). MetAs I W J X old K list cells theta z) e a
-
-  pub met_full : {row : ℕ} {new : Mark} → u ≡ unified.Full row new → Stopped I W J X old K 60 row new × (theta ≡ replicate VARIABLES 0)
-  met_full e = subst (λ (z : Unified). MetAs I W J X old K list cells theta z) e a
+use Rattle.inversion.proofs.InvertVerdicts.{Answer}
+use Rattle.inversion.proofs.InvertRests.{rests_all, said, said_is, asked}
 
 -- The hypotheses of the case's fact ------------------------------------------------------------------------------------------------------------
 
@@ -98,6 +77,10 @@ module _ {facts lists : List ℕ} {n : Sizes} {I W : List ℕ} {m : Mark} (g : R
             (all_at (fact_of g.S i).hyps k 0 (row g l).hyps_below (subst (λ (xs : List ℕ). k < length xs) z p))
         go false q k p = absurd (omega (arith, p))
 
+judged_said : {I W J X : List ℕ} {m new : Mark} {K : Out Made (Unit {0})} (a : Answer) → On I W m K J X new (said a (made J X new)) → JudgedBy I W J X m new K a
+judged_said (Ok _) o = on_done o
+judged_said (Err q) o = on_refused o
+
 -- The case behind its judgment -----------------------------------------------------------------------------------------------------------------
 
 module _ {symbols rules patterns facts lists : List ℕ} {n : Sizes} {I W : List ℕ} {m : Mark} {r t : ℕ} {cells theta memo context ids : List ℕ}
@@ -114,17 +97,15 @@ module _ {symbols rules patterns facts lists : List ℕ} {n : Sizes} {I W : List
   pub judge_unmade : (i : ℕ) {J X : List ℕ} {q d : ℕ} {mid : Mark} → Stopped I W J X m premised q d mid → Stopped I W J X m (whole i) q d mid
   judge_unmade i s = on_no _ (on_start g.recalls.good) s
 
-  module _ (i : ℕ) {s : Span} (e : s ≡ own_span facts n i) {J X plain plain' : List ℕ} {mid : Mark} (p : PremisesRead I W J X m premised plain plain' mid) where
+  module _ (i : ℕ) {own : List ℕ} (o : own ≡ part lists (own_span facts n i)) {J X plain plain' : List ℕ} {mid : Mark}
+      (p : PremisesRead I W J X m premised plain plain' mid) where
     -- what `context_facts` asks
-    pub judge_given : {memo' fine : List ℕ} → memo' ≡ memo → length plain' ≡ 64 → length fine ≡ 16 →
-        ContextGiven facts lists n J X mid theta memo' (part lists s) plain' fine
-    judge_given f a b = record {
+    pub judge_given : {memo' : List ℕ} → memo' ≡ memo → ContextGiven facts lists n J X mid theta memo' own
+    judge_given f = record {
       recalls = recalls_grown p.went.grown g.recalls;
       cells = theta_grown p.went.grown g.theta_is;
       empty = f ∙ g.empty;
-      known = own_there g.recalls i e;
-      wide = a;
-      broad = b;
+      known = subst (There n.facts) (sym o) (own_there g.recalls i refl);
     }
 
     abbrev read : List Binding → Out Made (List Allowed)
@@ -141,7 +122,7 @@ module _ {symbols rules patterns facts lists : List ℕ} {n : Sizes} {I W : List
     judge_unread w = on_no _ on_made (record { grown = w.grown; makes = sym reads ∙ w.makes })
 
     module _ {Y Z plain'' fine fine' : List ℕ} {new : Mark}
-        (c : ContextRead (List Allowed) J X Y Z mid g.recalls.S (read (bindings (made J X mid) theta 0)) all_of (part lists s) plain' plain'' fine fine' new) where
+        (c : ContextRead (List Allowed) J X Y Z mid g.recalls.S (read (bindings (made J X mid) theta 0)) all_of own plain' plain'' fine fine' new) where
       abbrev grown_now : Grown I W Y Z m new
       grown_now = grown_trans p.went.grown c.went.grown
 
@@ -149,8 +130,8 @@ module _ {symbols rules patterns facts lists : List ℕ} {n : Sizes} {I W : List
       recalls_now = recalls_grown grown_now g.recalls
 
       -- what `verdict` asks
-      abbrev pub judge_verdict : Verdict facts n i t (part lists s)
-      judge_verdict = record {
+      abbrev pub judge_verdict : {own' : List ℕ} → own' ≡ own → Verdict facts n i t own'
+      judge_verdict f = record {
         given = record {
           S = g.recalls.S;
           footings = g.recalls.footings;
@@ -161,31 +142,25 @@ module _ {symbols rules patterns facts lists : List ℕ} {n : Sizes} {I W : List
           few = omega (arith, made_length Y Z new, grown_now.good.room);
         };
         there = omega (arith, made_length Y Z new, grown_there grown_now t g.there);
-        owns = ap (part lists) e;
+        owns = f ∙ o;
       }
 
-      module _ {q : ℕ} (v : q ≡ verdict_of g.recalls.S (made Y Z new) i (tree Y Z new t) (holds plain'') (holds fine'))
-          (zp : plain ≡ replicate TERMWORDS 0) (zf : fine ≡ replicate FACTWORDS 0) where
-        on_said : On I W m (whole i) Y Z new (said q (made Y Z new))
-        on_said =
-            on_is (on_ok _ on_made (record { grown = c.went.grown; makes = sym reads ∙ c.went.makes }))
-            (said_is g.recalls.S i (tree I W m t) (made Y Z new) (holds plain'') (holds fine') (p.these ++ c.answer) recalls_now.recorded
-            (λ l. rests_all p.these p.adds p.only c.went.grown c.adds recalls_now.recorded grown_now.good.apart zp zf l (own_is g.recalls i e l))
-            ∙ ap (λ (k : ℕ). said k (made Y Z new))
-            (sym (v ∙ ap (λ (u : Tree). verdict_of g.recalls.S (made Y Z new) i u (holds plain'') (holds fine')) (grown_tree grown_now t g.there))))
-
-        pub judge_done : q ≡ 0 → Went I W Y Z m (whole i) tt new
-        judge_done z = on_done (on_is on_said (said_none (made Y Z new) z))
-
-        pub judge_refused : (q ≡ 0 → ⊥) → Stopped I W Y Z m (whole i) q 0 new
-        judge_refused d = on_refused (on_is on_said (said_no q (made Y Z new) d))
+      pub judge_done : (a : Answer) → a ≡ verdict_of g.recalls.S (made Y Z new) i (tree Y Z new t) (holds plain'') (holds fine') →
+          plain ≡ replicate TERMWORDS 0 → fine ≡ replicate FACTWORDS 0 → JudgedBy I W Y Z m new (whole i) a
+      judge_done a v zp zf =
+          judged_said a
+          (on_is (on_ok _ on_made (record { grown = c.went.grown; makes = sym reads ∙ c.went.makes }))
+          (said_is g.recalls.S i (tree I W m t) (made Y Z new) (holds plain'') (holds fine') (p.these ++ c.answer) recalls_now.recorded
+          (λ l. rests_all p.these p.adds p.only c.went.grown c.adds recalls_now.recorded grown_now.good.apart zp zf l (o ∙ own_is g.recalls i refl l))
+          ∙ ap (λ (k : Answer). said k (made Y Z new))
+          (sym (v ∙ ap (λ (u : Tree). verdict_of g.recalls.S (made Y Z new) i u (holds plain'') (holds fine')) (grown_tree grown_now t g.there)))))
 
 -- The judgment under the unifier ---------------------------------------------------------------------------------------------------------------
 
 module _ {I W : List ℕ} {m : Mark} {K : Out Made (Unit {0})} {J X : List ℕ} {now : Mark} {rest : Out Made (Unit {0})} (o : On I W m K J X now rest) where
-  judged_on : (Y Z : List ℕ) (a : Bound) → JudgedAs J X Y Z now rest a → JudgedAs I W Y Z m K a
-  judged_on Y Z (bound.Ok new) w = on_went o w
-  judged_on Y Z (bound.No q d new) s = on_stopped o s
+  judged_on : (Y Z : List ℕ) (new : Mark) (a : Answer) → JudgedBy J X Y Z now new rest a → JudgedBy I W Y Z m new K a
+  judged_on Y Z new (Ok _) w = on_went o w
+  judged_on Y Z new (Err q) s = on_stopped o s
 
 module _ {symbols rules patterns facts lists : List ℕ} {n : Sizes} {I W : List ℕ} {m : Mark} {r j : ℕ} {cells theta memo context ids : List ℕ}
     (g : Judging symbols rules patterns facts lists n I W m r j cells theta memo context ids) where
@@ -226,11 +201,11 @@ module _ {symbols rules patterns facts lists : List ℕ} {n : Sizes} {I W : List
   judge_stop i s = on_no _ (on_start g.recalls.good) (record { grown = s.grown; makes = sym first_step ∙ s.makes })
 
   pub judge_under : (i : ℕ) {J X : List ℕ} (t : ℕ) {new : Mark} →
-      Went I W J X m (substitute (replacement (made I W m) theta) (tree I W m j) (made I W m)) (tree J X new t) new → (Y Z : List ℕ) (a : Bound) →
-      JudgedAs J X Y Z new (rest_of_it i (bindings (made J X new) theta 0) (tree J X new t) (made J X new)) a → JudgedAs I W Y Z m (all_of_it i) a
-  judge_under i {J} {X} t {new} w Y Z a =
+      Went I W J X m (substitute (replacement (made I W m) theta) (tree I W m j) (made I W m)) (tree J X new t) new → (Y Z : List ℕ) (last : Mark) (a : Answer) →
+      JudgedBy J X Y Z new last (rest_of_it i (bindings (made J X new) theta 0) (tree J X new t) (made J X new)) a → JudgedBy I W Y Z m last (all_of_it i) a
+  judge_under i {J} {X} t {new} w Y Z last a =
       judged_on (on_is (on_ok _ (on_start g.recalls.good) (record { grown = w.grown; makes = sym first_step ∙ w.makes }))
-      (ap (λ (ζ : List Binding). rest_of_it i ζ (tree J X new t) (made J X new)) (sym (bindings_grown w.grown g.theta_is)))) Y Z a
+      (ap (λ (ζ : List Binding). rest_of_it i ζ (tree J X new t) (made J X new)) (sym (bindings_grown w.grown g.theta_is)))) Y Z last a
 
 -- A rule with a case ---------------------------------------------------------------------------------------------------------------------------
 
@@ -248,11 +223,18 @@ module _ {symbols rules patterns facts lists : List ℕ} {n : Sizes} {I W : List
   begun : (i : ℕ) → On I W m (case_of_lem g.recalls.S.theory i) I W m (case_of_lem g.meeting.T i)
   begun i = on_is (on_start g.recalls.good) (cases_same i)
 
-  pub having_apart : (i : ℕ) {J X : List ℕ} {new : Mark} → Went I W J X m (met g.meeting.T) nothing new → Stopped I W J X m (case_of_lem g.recalls.S.theory i) 46 0 new
+  having_apart : (i : ℕ) {J X : List ℕ} {new : Mark} → Went I W J X m (met g.meeting.T) nothing new → Stopped I W J X m (case_of_lem g.recalls.S.theory i) 46 0 new
   having_apart i w = on_refused (on_ok _ (begun i) w)
 
   pub having_full : (i : ℕ) {J X : List ℕ} {q d : ℕ} {new : Mark} → Stopped I W J X m (met g.meeting.T) q d new → Stopped I W J X m (case_of_lem g.recalls.S.theory i) q d new
   having_full i w = on_no _ (begun i) w
+
+  module _ (J X cells theta : List ℕ) (new : Mark) {b : Bool} (w : MetBy I W J X m new (met g.meeting.T) list cells theta (Ok b)) where
+    pub having_met : b ≡ true → Met I W J X m (met g.meeting.T) list cells theta new
+    having_met e = subst (λ (z : Bool). MetBy I W J X m new (met g.meeting.T) list cells theta (Ok z)) e w
+
+    pub having_unmet : (i : ℕ) → b ≡ false → Stopped I W J X m (case_of_lem g.recalls.S.theory i) 46 0 new
+    having_unmet i e = having_apart i (subst (λ (z : Bool). MetBy I W J X m new (met g.meeting.T) list cells theta (Ok z)) e w)
 
   module _ {J X cells theta : List ℕ} {new : Mark} (w : Met I W J X m (met g.meeting.T) list cells theta new) where
     -- what `judge` asks
@@ -277,10 +259,10 @@ module _ {symbols rules patterns facts lists : List ℕ} {n : Sizes} {I W : List
       zero = g.zero;
     }
 
-    pub having_judged : (i : ℕ) (Y Z : List ℕ) (a : Bound) →
-        JudgedAs J X Y Z new (judges g.recalls.S (rule g.meeting.T r) (renaming list) (bindings (made J X new) theta 0) context i (tree J X new j) (made J X new)) a →
-        JudgedAs I W Y Z m (case_of_lem g.recalls.S.theory i) a
-    having_judged i Y Z a =
+    pub having_judged : (i : ℕ) (Y Z : List ℕ) (last : Mark) (a : Answer) →
+        JudgedBy J X Y Z new last (judges g.recalls.S (rule g.meeting.T r) (renaming list) (bindings (made J X new) theta 0) context i (tree J X new j) (made J X new)) a →
+        JudgedBy I W Y Z m last (case_of_lem g.recalls.S.theory i) a
+    having_judged i Y Z last a =
         judged_on (on_is (on_ok _ (begun i) w.went)
         (ap (λ (u : Tree). judges g.recalls.S (rule g.meeting.T r) (renaming list) (bindings (made J X new) theta 0) context i u (made J X new))
-        (sym (grown_tree w.went.grown j g.there)))) Y Z a
+        (sym (grown_tree w.went.grown j g.there)))) Y Z last a

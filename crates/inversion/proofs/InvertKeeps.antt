@@ -8,7 +8,7 @@ use native.Mathlib.Decide.{ℕ_discrete}
 use native.Mathlib.Numerals.{add-one}
 use lib.ListN.{length, get_or, set, drop, drop_of_length-le}
 use lib.Seq.{drop-cons, get_or-set_same, get_or-set_other}
-use Rattle.rules.specs.Limits.{RULEVARS, TERMS}
+use Rattle.rules.specs.Limits.{RULEVARS}
 use Rattle.rules.specs.Out.{Out, ok, then}
 use Rattle.rules.specs.Tree.{Tree, Trees, var, none, more}
 use Rattle.rules.specs.Store.{Made, keep}
@@ -16,13 +16,9 @@ use Rattle.rules.specs.Induct.{keep_vars}
 use Rattle.rules.specs.Invert.{renaming}
 use Rattle.rules.specs.Laws.Out.{then_then}
 use Rattle.terms.specs.declared.store.Mark.{Mark}
-use Rattle.terms.specs.declared.apart.Kept.{Kept}
-use Rattle.terms.specs.declared.apart.Kept.TheVariants.{Term, Full}
-use Rattle.terms.specs.Table.{made, Good, Stored}
-use Rattle.terms.specs.Apart.{After}
+use Rattle.terms.specs.Table.{made, Good, Stored, Refused}
 use Rattle.terms.specs.Patterns.{tree_in, bound_of, Cells}
 use Rattle.terms.specs.On.{Stopped, On, on_start, on_is, on_ok, on_no, on_done, stored_went, refused_stopped}
-use Rattle.terms.specs.Apart.{after_term, after_full}
 use Rattle.terms.specs.Laws.Bound.{bound_some, bound_grown, cells_grown, cells_set}
 use Rattle.terms.specs.Laws.Growth.{made_length}
 use Rattle.terms.specs.Laws.Numbers.{stored_is}
@@ -48,12 +44,6 @@ vars_start {I} {W} {m} list g c =
     }
 
 module _ {I W : List ℕ} {old : Mark} {list J X bound : List ℕ} {now : Mark} {k : ℕ} (h : VarsKeeping I W old list J X bound now k) where
-  pub vars_index : length J ≡ length I
-  vars_index = h.on.grown.same.long_index
-
-  pub vars_words : length X ≡ length W
-  vars_words = h.on.grown.same.long_words
-
   -- none is left
   pub vars_over : length list ≤ k → VarsKept I W J X old list bound now
   unfolding keep_vars then
@@ -76,18 +66,12 @@ module _ {I W : List ℕ} {old : Mark} {list J X bound : List ℕ} {now : Mark} 
         ∙ ap (λ (f : Tree → Made → Out Made Trees). then (keep (var (get_or list k 0)) (made J X now)) f)
         (λ i t U. then_then (keep_vars (drop (suc k) list) U) (λ ts N. ok (more t ts) N) (λ ts N. ok (h.front ts) N) i))
 
-    module _ (Y Z : List ℕ) (r : Kept) (a : After J X Y Z now (var (get_or list k 0)) (keep (var (get_or list k 0)) (made J X now)) r) where
-      pub vars_full : {row : ℕ} {new : Mark} → r ≡ Full row new → Stopped I W Y Z old (keep_vars list (made I W old)) 60 row new
-      vars_full e = on_no _ split (refused_stopped (after_full a e))
+    module _ {Y Z : List ℕ} {new : Mark} where
+      pub vars_full : {row : ℕ} → Refused Tree J X Y Z now (keep (var (get_or list k 0)) (made J X now)) row new → Stopped I W Y Z old (keep_vars list (made I W old)) 60 row new
+      vars_full s = on_no _ split (refused_stopped s)
 
-      module _ {t : ℕ} {new : Mark} (e : r ≡ Term t new) where
-        stored : Stored J X Y Z now (var (get_or list k 0)) (keep (var (get_or list k 0)) (made J X now)) t new
-        stored = after_term a e
-
-        pub vars_small : t < TERMS
-        vars_small = omega (arith, stored.there, stored.grown.good.room)
-
-        pub vars_place : k < length bound
+      module _ {t : ℕ} (stored : Stored J X Y Z now (var (get_or list k 0)) (keep (var (get_or list k 0)) (made J X now)) t new) where
+        vars_place : k < length bound
         vars_place = omega (arith, few, l, h.cells.long)
 
         later : Cells new.terms bound

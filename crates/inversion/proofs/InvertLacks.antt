@@ -1,28 +1,27 @@
 -- A rule without a case: variables are made for it, and its conclusion over them must not unify with the hypothesis. Assumes nothing.
 use mathlib.Core.Path.{◌≡◌, sym, ap, ◌∙◌, subst}
-use Rattle.std.specs.Prelude.{Option, Some as some, None as nothing}
+use mathlib.Core.Bool.{Bool, true, false}
+use Rattle.std.specs.Prelude.{Option, Some as some, None as nothing, Ok}
 use mathlib.Core.List.{List}
 use Prim.Native.Nat.{ℕ, zero, suc, ◌+◌, ◌<◌, ◌≤◌}
 use native.Mathlib.Omega.{arith}
 use lib.ListN.{length, get_or, take, replicate}
 use lib.Seq.{length-take-le}
-use Rattle.rules.specs.Limits.{VARIABLES, RULEVARS}
-use Rattle.rules.specs.Out.{Out, then, pure, stop}
+use Rattle.rules.specs.Limits.{RULEVARS}
+use Rattle.rules.specs.Out.{Out, refuse, then, pure, stop}
 use Rattle.rules.specs.Store.{Made}
 use Rattle.rules.specs.Unify.{Binding}
 use Rattle.rules.specs.Theory.{Theory, Rule, rule}
 use Rattle.rules.specs.State.{Var}
-use Rattle.rules.specs.Invert.{up_from}
+use Rattle.rules.specs.Invert.{make_vars, up_from}
 use Rattle.rules.proofs.Laws.Below.{below_up}
 use Rattle.terms.specs.declared.store.Mark.{Mark}
-use Rattle.unification.specs.declared.apart.Unified.{Unified}
-use Rattle.unification.specs.declared.apart.Unified.TheVariants as unified
 use Rattle.terms.specs.Table.{made, tree}
 use Rattle.terms.specs.On.{Stopped, On, on_start, on_is, on_ok, on_no, on_pure, on_stop, on_done, on_refused}
 use Rattle.terms.specs.Laws.Bound.{cells_zeros}
 use Rattle.kernel.specs.Entries.{rule_formed}
 use Rattle.state.specs.declared.sizes.Sizes.{Sizes}
-use Rattle.inversion.specs.InvertRules.{RuleVarsGiven, MadeAs, VarsMade, vars_with, Meeting, MetAs, meets, Lacking, Lacked, lacks}
+use Rattle.inversion.specs.InvertRules.{RuleVarsGiven, VarsMade, vars_with, Meeting, MetBy, meets, Lacking, Lacked, lacks}
 use Rattle.inversion.proofs.InvertNames.{with_length}
 
 pub up_below : (a n i : ℕ) → i < n → get_or (up_from a n) i 0 < a + n
@@ -57,18 +56,18 @@ module _ {symbols rules rulevars patterns : List ℕ} {n : Sizes} {I W : List �
   abbrev K : Out Made (List Var)
   K = lacks (vars_with g.vs sorts count) (tree I W m s) R (made I W m)
 
-  module _ (sorts' list : List ℕ) (a : Option ℕ)
-      (f : (h : RuleVarsGiven rulevars r need) (vs : List Var) → length vs ≤ count → MadeAs vs (rule h.T r).vars sorts sorts' count list a) where
-    said : MadeAs g.vs R.vars sorts sorts' count list a
-    said = subst (λ (T : Theory). MadeAs g.vs (rule T r).vars sorts sorts' count list a) g.theory (f lack_vars g.vs g.more)
+  pub lack_full : {d : ℕ} → ((h : RuleVarsGiven rulevars r need) (vs : List Var) → length vs ≤ count → (M : Made) →
+      make_vars (rule h.T r).vars (vars_with vs sorts count) M ≡ refuse 60 d M) → Stopped I W I W m K 60 d m
+  lack_full {d} f =
+      on_stop _ (on_start g.good)
+      (subst (λ (T : Theory). make_vars (rule T r).vars (vars_with g.vs sorts count) (made I W m) ≡ refuse 60 d (made I W m)) g.theory
+      (f lack_vars g.vs g.more (made I W m)))
 
-    pub lack_full : a ≡ nothing → Stopped I W I W m K 60 7 m
-    lack_full e = on_stop _ (on_start g.good) (subst (MadeAs g.vs R.vars sorts sorts' count list) e said (made I W m))
+  module _ {sorts' list : List ℕ} {k : ℕ} (f : (h : RuleVarsGiven rulevars r need) (vs : List Var) → length vs ≤ count → VarsMade vs (rule h.T r).vars sorts sorts' count list k) where
+    pub are : VarsMade g.vs R.vars sorts sorts' count list k
+    are = subst (λ (T : Theory). VarsMade g.vs (rule T r).vars sorts sorts' count list k) g.theory (f lack_vars g.vs g.more)
 
-    module _ {k : ℕ} (e : a ≡ some k) (long : length sorts' ≡ length sorts) (room : length list ≡ RULEVARS) where
-      pub are : VarsMade g.vs R.vars sorts sorts' count list k
-      are = subst (MadeAs g.vs R.vars sorts sorts' count list) e said
-
+    module _ (room : length list ≡ RULEVARS) where
       pub lack_room : need ≤ length list
       lack_room = omega (arith, lack_short, room)
 
@@ -97,36 +96,34 @@ module _ {symbols rules rulevars patterns : List ℕ} {n : Sizes} {I W : List �
       before : length (vars_with g.vs sorts count) ≡ count
       before = with_length g.vs sorts count g.more (omega (arith, g.few, g.long))
 
-      after : length (vars_with g.vs sorts' k) ≡ k
-      after = with_length g.vs sorts' k (omega (arith, g.more, are.many)) (omega (arith, are.few, long, g.long))
-
       abbrev rest : Option (List Binding) → Made → Out Made (List Var)
       rest θ = elim θ as (λ (o : Option (List Binding)). Made → Out Made (List Var)) [ nothing ↦ pure (vars_with g.vs sorts' k) | some ζ ↦ stop 47 ]
 
-      on_made : On I W m K I W m (then (meets (take need list) k (tree I W m s) R (made I W m)) rest)
+      after : length (vars_with g.vs sorts' k) ≡ k
+      after = with_length g.vs sorts' k (omega (arith, g.more, are.many)) (omega (arith, are.few, are.long))
+
+      abbrev met : Out Made (Option (List Binding))
+      met = meets (take need list) k (tree I W m s) R (made I W m)
+
+      on_made : On I W m K I W m (then met rest)
       on_made =
           on_is (on_pure _ (on_start g.good) (are.makes (made I W m)))
           ((λ i. then (meets (up_from (before i) (length R.vars)) (after i) (tree I W m s) R (made I W m)) rest)
           ∙ ap (λ (xs : List ℕ). then (meets xs k (tree I W m s) R (made I W m)) rest) (sym numbers))
 
-      module _ (J X bound theta : List ℕ) (u : Unified)
-          (w : (h : Meeting symbols rules patterns n I W m r s k (take need list) (replicate RULEVARS 0)) →
-          MetAs I W J X m (meets (take need list) k (tree I W m s) (rule h.T r) (made I W m)) (take need list) bound theta u) where
-        abbrev Q : Unified → Type 0
-        Q x = MetAs I W J X m (meets (take need list) k (tree I W m s) R (made I W m)) (take need list) bound theta x
+      pub lack_stopped : {J X : List ℕ} {q d : ℕ} {new : Mark} → Stopped I W J X m met q d new → Stopped I W J X m K q d new
+      lack_stopped x = on_no _ on_made x
 
-        pub lack_found : {new : Mark} → u ≡ unified.Found new → Stopped I W J X m K 47 0 new
-        lack_found q = on_refused (on_ok _ on_made (subst Q q (w lack_meeting)).went)
+      module _ (J X bound theta : List ℕ) (new : Mark) {b : Bool} (w : MetBy I W J X m new met (take need list) bound theta (Ok b)) where
+        pub lack_found : b ≡ true → Stopped I W J X m K 47 0 new
+        lack_found e = on_refused (on_ok _ on_made (subst (λ (z : Bool). MetBy I W J X m new met (take need list) bound theta (Ok z)) e w).went)
 
-        pub lack_apart : {new : Mark} → u ≡ unified.Apart new → Lacked I W J X m g.vs K sorts' count k new
-        lack_apart q =
-            record { went = on_done (on_ok _ on_made (subst Q q (w lack_meeting)).0); more = omega (arith, are.many); few = are.few }
-
-        pub lack_stopped : {row : ℕ} {new : Mark} → u ≡ unified.Full row new → Stopped I W J X m K 60 row new
-        lack_stopped q = on_no _ on_made (subst Q q (w lack_meeting)).0
-
-        pub lack_zero : {new : Mark} → u ≡ unified.Apart new → theta ≡ replicate VARIABLES 0
-        lack_zero q = (subst Q q (w lack_meeting)).1
-
-        pub lack_zero_full : {row : ℕ} {new : Mark} → u ≡ unified.Full row new → theta ≡ replicate VARIABLES 0
-        lack_zero_full q = (subst Q q (w lack_meeting)).1
+        pub lack_apart : b ≡ false → Lacked I W J X m g.vs K sorts' count k new
+        lack_apart e =
+            record {
+              went = on_done (on_ok _ on_made (subst (λ (z : Bool). MetBy I W J X m new met (take need list) bound theta (Ok z)) e w));
+              more = omega (arith, are.many);
+              few = are.few;
+              long = are.long;
+              others = are.others (length g.vs) g.more g.others;
+            }

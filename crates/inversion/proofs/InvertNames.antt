@@ -6,7 +6,7 @@ use Prim.Native.Nat.{ℕ, zero, suc, ◌+◌, ◌-◌, ◌*◌, ◌^◌, ◌<◌
 use native.Mathlib.Omega.{arith}
 use native.Mathlib.Numerals.{add-one}
 use lib.ListN.{length, get_or, set, take, drop, length-append, length-drop, drop_of_length-le}
-use lib.Seq.{sets, drop-cons, length-take-le}
+use lib.Seq.{sets, drop-cons, length-take-le, get_or-set_other}
 use borrow.Author.Tests.{lt-ltb, le-ltb}
 use Rattle.rules.specs.Limits.{VARIABLES}
 use Rattle.rules.specs.Out.{refuse, room}
@@ -21,7 +21,7 @@ use Rattle.state.specs.VarLaws.{vars_made}
 use Rattle.rules.specs.Declare.{no_rule_var}
 use Rattle.kernel.specs.HeldRules.{RulesHeld}
 use Rattle.kernel.specs.Readers.{KnownVar}
-use Rattle.inversion.specs.InvertRules.{RuleVarsGiven, nameless, vars_with, VarsMade}
+use Rattle.inversion.specs.InvertRules.{RuleVarsGiven, nameless, vars_with, Unmade, VarsMade}
 
 module _ {rulevars : List ℕ} {r need : ℕ} (g : RuleVarsGiven rulevars r need) where
   -- what `variable_sort` asks
@@ -132,12 +132,25 @@ up_snoc a (suc k) = let e : suc a + k ≡ a + suc k = omega arith in ap (λ (l :
 pub record Making (vs : List Var) (rs : List RuleVar) (first sorts : List ℕ) (count : ℕ) (list : List ℕ) (v k : ℕ) : Type 0 where
   pub makes : (M : Made) → make_vars rs (vars_with vs first count) M ≡ make_vars (drop k rs) (vars_with vs sorts v) M
   pub numbers : take k list ≡ up_from count k
+  pub others : (base : ℕ) → base ≤ count → Unmade base count first → Unmade base v sorts
 
 pub making_start : (vs : List Var) (rs : List RuleVar) (first : List ℕ) (count : ℕ) (list : List ℕ) → Making vs rs first first count list (count + 0) 0
 unfolding up_from
 making_start vs rs first count list =
     let z : count ≡ count + 0 = omega arith in
-    record { makes = λ M. ap (λ (w : ℕ). make_vars rs (vars_with vs first w) M) z; numbers = refl }
+    record {
+      makes = λ M. ap (λ (w : ℕ). make_vars rs (vars_with vs first w) M) z;
+      numbers = refl;
+      others = λ base l u. record { before = u.before; behind = λ w q. u.behind w (omega (arith, q)) };
+    }
+
+-- one cell more is a made variable's
+unmade_set : (base v : ℕ) (sorts : List ℕ) (s : ℕ) → base ≤ v → v < length sorts → Unmade base v sorts → Unmade base (v + 1) (set sorts v s)
+unmade_set base v sorts s l m u =
+    record {
+      before = λ w q. get_or-set_other sorts v w s 0 (omega (arith, l, q)) ∙ u.before w q;
+      behind = λ w q. get_or-set_other sorts v w s 0 (omega (arith, q)) ∙ u.behind w (omega (arith, q));
+    }
 
 module _ {vs : List Var} {rs : List RuleVar} {first sorts : List ℕ} {count : ℕ} {list : List ℕ} {v k : ℕ} (h : Making vs rs first sorts count list v k)
     (lv : length vs ≤ v) (ls : length sorts ≡ VARIABLES) (e : v ≡ count + k) where
@@ -151,6 +164,8 @@ module _ {vs : List Var} {rs : List RuleVar} {first sorts : List ℕ} {count : �
         many = omega arith;
         few = f;
         numbers = ap (λ (j : ℕ). take j list) (sym z) ∙ h.numbers ∙ ap (up_from count) z;
+        long = ls;
+        others = h.others;
       }
 
   module _ (l : k < length rs) where
@@ -174,6 +189,8 @@ module _ {vs : List Var} {rs : List RuleVar} {first sorts : List ℕ} {count : �
               (ap (λ (a : ℕ). vars_with vs sorts v ++ (made_var a ∷ [])) (sym q) ∙ sym (with_set vs sorts v s lv (omega (arith, ls, f))))
               ∙ ap (λ (a : ℕ). make_vars (drop (k + 1) rs) (vars_with vs (set sorts v s) a) M) (sym z);
           numbers = put_next list k v w ∙ (λ i. h.numbers i ++ (e i ∷ [])) ∙ sym (up_snoc count k) ∙ ap (up_from count) (sym (add-one k));
+          others = λ base l t. subst (λ (u : ℕ). Unmade base u (set sorts v s)) (sym z)
+              (unmade_set base v sorts s (omega (arith, l, e)) (omega (arith, ls, f)) (h.others base l t));
         }
 
 -- The rows that are written at the end -------------------------------------------------------------------------------------------------------------
@@ -188,7 +205,3 @@ rows_start {goals} {text} {vars} {count} {vs} sorts h = subst (λ (us : List Var
 
 pub rows_end : {goals text vars put : List ℕ} {v : ℕ} {us : List Var} → put ≡ vars → VarsHeld goals text vars v us → VarsHeld goals text put v us
 rows_end {goals} {text} {v = v} {us} e h = subst (λ (ws : List ℕ). VarsHeld goals text ws v us) (sym e) h
-
-pub rows_done : {goals text vars : List ℕ} (vs : List Var) (sorts : List ℕ) {v end : ℕ} → v ≤ end → end ≤ v → VarsHeld goals text vars v (vars_with vs sorts v) →
-    VarsHeld goals text vars end (vars_with vs sorts end)
-rows_done {goals} {text} {vars} vs sorts {v} {end} l m h = let e : v ≡ end = omega arith in subst (λ (k : ℕ). VarsHeld goals text vars k (vars_with vs sorts k)) e h

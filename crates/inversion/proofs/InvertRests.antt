@@ -2,9 +2,11 @@
 -- Assumes nothing.
 use mathlib.Core.Path.{◌≡◌, refl, sym, ap, ◌∙◌, subst}
 use mathlib.Core.Bool.{Bool, true, false, ◌&&◌, true≢false, false≢true}
-use Rattle.std.specs.Prelude.{Option, Some as some, None as nothing}
+use Rattle.std.specs.Prelude.{Option, Some as some, None as nothing, Ok, Err}
+use Rattle.questions.specs.declared.Question.TheVariants.{Earlier, CaseJudgment, CaseHypotheses}
+use Rattle.questions.specs.Numbers.{number_of, detail_of}
 use mathlib.Core.List.{List, [], ◌∷◌, ◌++◌}
-use Prim.Native.Nat.{ℕ, zero, suc, ◌<◌}
+use Prim.Native.Nat.{ℕ, ◌<◌}
 use native.Mathlib.Omega.{arith}
 use native.Mathlib.Decide.{ℕ_discrete, dec_lt}
 use lib.Dec.{eqb}
@@ -33,7 +35,7 @@ use Rattle.referring.specs.Recall.{fact_of}
 use Rattle.casework.specs.Context.{plainly, plains_of, others_of, trees_of, PlainAdds, Adds, matching, rests_by}
 use Rattle.inversion.specs.InvertRules.{verdict_of}
 use Rattle.casework.specs.Laws.Facts.{plains_append, others_append, plain_more}
-use Rattle.inversion.proofs.InvertVerdicts.{no_entry}
+use Rattle.inversion.proofs.InvertVerdicts.{Answer, no_entry}
 
 -- Numbers and trees --------------------------------------------------------------------------------------------------------------------------
 
@@ -190,19 +192,9 @@ module _ (az : List Allowed) {J X Y Z : List ℕ} {mid new : Mark} {S : State} {
 
 -- The verdict --------------------------------------------------------------------------------------------------------------------------------
 
--- 0 for none
-unfoldable pub said : ℕ → Made → Out Made (Unit {0})
-said zero M = ok tt M
-said (suc k) M = refuse (suc k) 0 M
-
-pub said_none : {q : ℕ} (M : Made) → q ≡ 0 → said q M ≡ ok tt M
-unfolding said
-said_none M e = ap (λ (k : ℕ). said k M) e
-
-pub said_no : (q : ℕ) (M : Made) → (q ≡ 0 → ⊥) → said q M ≡ refuse q 0 M
-unfolding said
-said_no zero M d = absurd (d refl)
-said_no (suc k) M d = refl
+abbrev pub said : Answer → Made → Out Made (Unit {0})
+said (Ok _) M = ok tt M
+said (Err q) M = refuse (number_of q) (detail_of q) M
 
 module _ (S : State) (i : ℕ) (t : Tree) (M : Made) (plain fine : Set) (cs : List Allowed) where
   abbrev rests : List ℕ → Bool
@@ -218,21 +210,21 @@ module _ (S : State) (i : ℕ) (t : Tree) (M : Made) (plain fine : Set) (cs : Li
   asked_at : Option Fact → Out Made (Unit {0})
   asked_at o = then (found 34 o M) (λ f U. then (ask 43 (same_tree f.judgment t) U) (λ _ Q. ask 44 (allows f.hyps) Q))
 
-  verdict_at : Option Fact → ℕ
-  verdict_at nothing = 34
-  verdict_at (some f) = elim (same_tree f.judgment t) [ false ↦ 43 | true ↦ elim (rests f.hyps) [ true ↦ 0 | false ↦ 44 ] ]
+  verdict_at : Option Fact → Answer
+  verdict_at nothing = Err Earlier
+  verdict_at (some f) = elim (same_tree f.judgment t) [ false ↦ Err CaseJudgment | true ↦ elim (rests f.hyps) [ true ↦ Ok tt | false ↦ Err CaseHypotheses ] ]
 
   said_missing : entry S.facts i ≡ nothing → asked ≡ said (verdict_of S M i t plain fine) M
-  unfolding fact_at verdict_of then said asked_at verdict_at
+  unfolding fact_at verdict_of then asked_at verdict_at
   said_missing e = ap asked_at e ∙ sym (ap (λ (o : Option Fact). said (verdict_at o) M) e)
 
   said_there : {f : Fact} → entry S.facts i ≡ some f → rests f.hyps ≡ allows f.hyps → asked ≡ said (verdict_of S M i t plain fine) M
-  unfolding fact_at verdict_of then said asked_at verdict_at
+  unfolding fact_at verdict_of then asked_at verdict_at
   said_there {f} e q =
       ap asked_at e ∙ at (same_tree f.judgment t) (rests f.hyps) (allows f.hyps) q ∙ sym (ap (λ (o : Option Fact). said (verdict_at o) M) e)
     where
       at : (c x y : Bool) → x ≡ y →
-          then (ask 43 c M) (λ _ Q. ask 44 y Q) ≡ said (elim c as (λ (z : Bool). ℕ) [ false ↦ 43 | true ↦ elim x as (λ (z : Bool). ℕ) [ true ↦ 0 | false ↦ 44 ] ]) M
+          then (ask 43 c M) (λ _ Q. ask 44 y Q) ≡ said (elim c as (λ (z : Bool). Answer) [ false ↦ Err CaseJudgment | true ↦ elim x as (λ (z : Bool). Answer) [ true ↦ Ok tt | false ↦ Err CaseHypotheses ] ]) M
       at false x y e = refl
       at true true y e = ap (λ (b : Bool). ask 44 b M) (sym e)
       at true false y e = ap (λ (b : Bool). ask 44 b M) (sym e)

@@ -1,5 +1,5 @@
 -- The loop over the rules of a predicate: what is carried from rule to rule, and what is left. Assumes nothing.
-use mathlib.Core.Path.{◌≡◌, refl, sym, ap, ◌∙◌, subst}
+use mathlib.Core.Path.{◌≡◌, refl, sym, ap, ◌∙◌}
 use Rattle.std.specs.Prelude.{Some as some, None as nothing, Option}
 use mathlib.Core.List.{List, [], ◌∷◌}
 use Prim.Native.Nat.{ℕ, ◌+◌, ◌<◌, ◌≤◌}
@@ -26,11 +26,9 @@ use Rattle.terms.specs.Laws.Growth.{grown_tree, grown_there}
 use Rattle.terms.specs.Laws.Terms.{term_var, head_tree}
 use Rattle.state.specs.declared.sizes.Sizes.{Sizes}
 use Rattle.state.specs.Held.{names, rule_lists}
-use Rattle.reading.specs.declared.apart.Out.{Out as Answer}
-use Rattle.reading.specs.declared.apart.Out.TheVariants as out
 use Rattle.referring.specs.Laws.Refers.{refers_on}
 use Rattle.referring.specs.Laws.Sounds.{grown_grows}
-use Rattle.inversion.specs.InvertRules.{vars_with, Turning, Turned, TurnedAs}
+use Rattle.inversion.specs.InvertRules.{vars_with, Unmade, Turning, Turned}
 
 -- The predicate ----------------------------------------------------------------------------------------------------------------------------
 
@@ -89,6 +87,9 @@ pub record RulesLeft (S : State) (Y : Inversion) (I W : List ℕ) (old : Mark) (
   pub vars_are : names_now.vars ≡ vars_with S.vars sorts count
   pub more : base ≤ count
   pub few : count ≤ VARIABLES
+  pub taken_long : length taken ≡ VARIABLEWORDS
+  pub sorts_long : length sorts ≡ VARIABLES
+  pub others : Unmade (length S.vars) count sorts
 
 module _ {theory goals text symbols ins vars defs rules rulevars patterns facts lists : List ℕ} {n : Sizes} {I W : List ℕ} {m : Mark} {cells : List ℕ} {many s j : ℕ}
     {context taken₀ sorts₀ : List ℕ} {base : ℕ}
@@ -127,6 +128,9 @@ module _ {theory goals text symbols ins vars defs rules rulevars patterns facts 
         vars_are = g.vars_are;
         more = omega arith;
         few = g.few;
+        taken_long = g.taken_long;
+        sorts_long = g.sorts_long;
+        others = g.others;
       }
 
   module _ {J X : List ℕ} {now : Mark} {taken sorts : List ℕ} {count p from : ℕ} (h : RulesLeft g.S g.inversion I W m whole J X now taken sorts base count p from)
@@ -146,6 +150,9 @@ module _ {theory goals text symbols ins vars defs rules rulevars patterns facts 
           vars_are = h.vars_are;
           more = h.more;
           few = h.few;
+          taken_long = h.taken_long;
+          sorts_long = h.sorts_long;
+          others = h.others;
         }
 
     module _ {r : ℕ} (e : q ≡ some r) where
@@ -159,9 +166,9 @@ module _ {theory goals text symbols ins vars defs rules rulevars patterns facts 
       rounds_high = next_high g.S.theory p from r next
 
       -- what `invert_rule` asks
-      abbrev pub rounds_turning : length taken ≡ VARIABLEWORDS → length sorts ≡ VARIABLES →
+      abbrev pub rounds_turning :
           Turning (names theory goals text symbols ins vars defs) (rule_lists theory rules rulevars patterns) facts lists n J X now cells many s j context taken sorts count
-      rounds_turning t u =
+      rounds_turning =
           record {
             S = g.S;
             footings = g.footings;
@@ -181,11 +188,12 @@ module _ {theory goals text symbols ins vars defs rules rulevars patterns facts 
             context_is = g.context_is;
             context_there = g.context_there;
             taken_is = h.taken_is;
-            taken_long = t;
+            taken_long = h.taken_long;
             vars_are = h.vars_are;
             more = omega (arith, g.more, h.more);
             few = h.few;
-            sorts_long = u;
+            sorts_long = h.sorts_long;
+            others = h.others;
             low = g.low;
           }
 
@@ -196,25 +204,23 @@ module _ {theory goals text symbols ins vars defs rules rulevars patterns facts 
       split =
           on_is h.on (ap (λ (rs : List ℕ). invert_rules g.S g.inversion rs h.names_now (made J X now)) (onward_some g.S.theory p from r next))
 
-      module _ (t : length taken ≡ VARIABLEWORDS) (u : length sorts ≡ VARIABLES) (Y Z taken' sorts' : List ℕ) (o : Answer)
-          (b : (w : Turning (names theory goals text symbols ins vars defs) (rule_lists theory rules rulevars patterns) facts lists n J X now cells many s j context taken sorts count) →
-          TurnedAs J X Y Z now w.S w.inversion (invert_rule w.S w.inversion (rule w.S.theory r) w.names (made J X now)) taken' sorts' count o) where
-        pub rounds_stopped : {k d : ℕ} {new : Mark} → o ≡ out.No k d new → Stopped I W Y Z m whole k d new
-        rounds_stopped f =
-            on_no _ split
-            (subst (TurnedAs J X Y Z now g.S g.inversion (invert_rule g.S g.inversion (rule g.S.theory r) h.names_now (made J X now)) taken' sorts' count) f
-            (b (rounds_turning t u)))
+      abbrev one_rule : Out Made Names
+      one_rule = invert_rule g.S g.inversion (rule g.S.theory r) h.names_now (made J X now)
 
-        pub rounds_again : {k : ℕ} {new : Mark} → o ≡ out.Ok k new → RulesLeft g.S g.inversion I W m whole Y Z new taken' sorts' base k p (r + 1)
-        rounds_again {k} {new} f =
-            let d : Turned J X Y Z now g.S g.inversion (invert_rule g.S g.inversion (rule g.S.theory r) h.names_now (made J X now)) taken' sorts' count k new =
-            subst (TurnedAs J X Y Z now g.S g.inversion (invert_rule g.S g.inversion (rule g.S.theory r) h.names_now (made J X now)) taken' sorts' count) f
-            (b (rounds_turning t u)) in
-            record {
-              names_now = d.names;
-              on = on_ok _ split d.went;
-              taken_is = d.taken_is;
-              vars_are = d.vars_are;
-              more = omega (arith, h.more, d.more);
-              few = d.few;
-            }
+      pub rounds_stopped : {Y Z : List ℕ} {k d : ℕ} {new : Mark} → Stopped J X Y Z now one_rule k d new → Stopped I W Y Z m whole k d new
+      rounds_stopped x = on_no _ split x
+
+      pub rounds_again : {Y Z taken' sorts' : List ℕ} {k : ℕ} {new : Mark} → Turned J X Y Z now g.S g.inversion one_rule taken' sorts' count k new →
+          RulesLeft g.S g.inversion I W m whole Y Z new taken' sorts' base k p (r + 1)
+      rounds_again d =
+          record {
+            names_now = d.names;
+            on = on_ok _ split d.went;
+            taken_is = d.taken_is;
+            vars_are = d.vars_are;
+            more = omega (arith, h.more, d.more);
+            few = d.few;
+            taken_long = d.taken_long;
+            sorts_long = d.sorts_long;
+            others = d.others;
+          }

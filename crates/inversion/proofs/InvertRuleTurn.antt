@@ -1,7 +1,7 @@
 -- One rule of `invert` in the tables: what its functions ask, and what their answers make of it. Assumes nothing.
 use mathlib.Core.Path.{◌≡◌, refl, sym, ap, ◌∙◌, subst}
 use mathlib.Core.Bool.{Bool, true, false, ◌&&◌, not}
-use Rattle.std.specs.Prelude.{None as nothing, Some as some, Option}
+use Rattle.std.specs.Prelude.{None as nothing, Some as some, Option, Ok, Err}
 use mathlib.Core.List.{List, ◌++◌}
 use Prim.Native.Nat.{ℕ, ◌-◌, ◌<◌, ◌≤◌}
 use native.Mathlib.Omega.{arith}
@@ -26,17 +26,17 @@ use Rattle.terms.specs.On.{Stopped, On, on_start, on_is, on_ok, on_no, on_done, 
 use Rattle.terms.specs.Laws.Bound.{cells_zeros}
 use Rattle.state.specs.declared.sizes.Sizes.{Sizes}
 use Rattle.state.specs.Held.{names, rule_lists}
-use Rattle.reading.specs.declared.apart.Out.{Out as Answer}
-use Rattle.reading.specs.declared.apart.Out.TheVariants as out
-use Rattle.reading.specs.declared.apart.Bound.{Bound}
-use Rattle.reading.specs.declared.apart.Bound.TheVariants as bound
+use Rattle.questions.specs.declared.Question.{Question}
+use Rattle.questions.specs.declared.Question.TheVariants.{CaseVariables}
+use Rattle.questions.specs.Numbers.{number_of, detail_of}
 use Rattle.reading.specs.Laws.Lists.{vars_listed}
 use Rattle.referring.specs.Laws.Refers.{refers_recalls}
 use Rattle.casework.specs.Cases.{CasesFirst, CaseFound, CaseHere}
 use Rattle.casework.specs.Context.{There}
-use Rattle.inversion.specs.InvertRules.{RuleVarsGiven, vars_with, CaseVarsGiven, CaseVarsAre, CaseVarsAs, JudgedAs, Lacking, LackedAs, lacks, Having, has_case, Turning, Turned, TurnedAs}
+use Rattle.inversion.specs.InvertRules.{RuleVarsGiven, vars_with, CaseVarsGiven, CaseVarsAre, JudgedBy, Lacking, LackedBy, lacks, Having, has_case, Turning, TurnedBy}
 use Rattle.inversion.proofs.InvertNames.{with_length}
 use Rattle.casework.specs.Laws.Rows.{and_true}
+use Rattle.inversion.proofs.InvertVerdicts.{Answer}
 use Rattle.inversion.proofs.InvertTurns.{turn_lacks, turn_unsuited, turn_taken, turn_has, new_is, taken_more}
 
 module _ {theory goals text symbols ins vars defs rules rulevars patterns facts lists : List ℕ} {n : Sizes} {I W : List ℕ} {m : Mark} {cells : List ℕ} {many s j : ℕ}
@@ -127,6 +127,7 @@ module _ {theory goals text symbols ins vars defs rules rulevars patterns facts 
         more = g.more;
         few = g.few;
         long = g.sorts_long;
+        others = g.others;
       }
 
   module _ (a : Span)
@@ -155,19 +156,22 @@ module _ {theory goals text symbols ins vars defs rules rulevars patterns facts 
             (turn_lacks g.S g.inversion R g.names (made I W m) none_named
             ∙ (λ i. then (lacks (g.vars_are i) (g.hypothesis i) R (made I W m)) (λ us E. ok (record { vars = us; seen = g.names.seen }) E)))
 
-        pub turn_lacked : (J X new-sorts : List ℕ) (o : Answer) →
-            LackedAs I W J X m g.S.vars (lacks (vars_with g.S.vars sorts count) (tree I W m s) R (made I W m)) new-sorts count o →
-            TurnedAs I W J X m g.S g.inversion (invert_rule g.S g.inversion R g.names (made I W m)) taken new-sorts count o
-        turn_lacked J X new-sorts (out.Ok k new) d =
+        pub turn_lacked : (J X new-taken new-sorts : List ℕ) (k : ℕ) (new : Mark) (a : Answer) → new-taken ≡ taken →
+            LackedBy I W J X m new g.S.vars (lacks (vars_with g.S.vars sorts count) (tree I W m s) R (made I W m)) new-sorts count k a →
+            TurnedBy I W J X m new g.S g.inversion (invert_rule g.S g.inversion R g.names (made I W m)) new-taken new-sorts count k a
+        turn_lacked J X new-taken new-sorts k new (Ok _) e d =
             record {
               names = record { vars = vars_with g.S.vars new-sorts k; seen = g.names.seen };
               went = on_done (on_ok _ lacking d.went);
-              taken_is = g.taken_is;
+              taken_is = ap holds e ∙ g.taken_is;
               vars_are = refl;
               more = d.more;
               few = d.few;
+              taken_long = ap length e ∙ g.taken_long;
+              sorts_long = d.long;
+              others = d.others;
             }
-        turn_lacked J X new-sorts (out.No q d new) t = on_no _ lacking t
+        turn_lacked J X new-taken new-sorts k new (Err q) e t = on_no _ lacking t
 
       -- With a case ------------------------------------------------------------------------------------------------------------------------
 
@@ -206,85 +210,82 @@ module _ {theory goals text symbols ins vars defs rules rulevars patterns facts 
           news : all (λ v. not (holds taken v)) c.vars ≡ all (λ v. not (taken_vars g.S g.inversion v) && not (has g.names.seen v)) c.vars
           news = new_is (holds taken) (taken_vars g.S g.inversion) (has g.names.seen) c.vars g.taken_is
 
-          module _ (new-taken list : List ℕ) (f : Option ℕ)
-              (u : (h : CaseVarsGiven goals text vars rulevars n.vars cells p r need) → CaseVarsAs h.S (rule h.S.theory r).vars h.c taken new-taken list f) where
-            pub turn_missing : f ≡ nothing → Stopped I W I W m (invert_rule g.S g.inversion R g.names (made I W m)) 42 0 m
-            turn_missing z =
-                pure_stopped g.refers.reads.good
-                (decide (suit g.S.vars c.vars R.vars) refl (all (λ v. not (holds taken v)) c.vars) refl
-                (subst (λ (z : Option ℕ). CaseVarsAs g.S R.vars c taken new-taken list z) z (u turn_case)))
-              where
-                decide : (a : Bool) → suit g.S.vars c.vars R.vars ≡ a → (b : Bool) → all (λ v. not (holds taken v)) c.vars ≡ b →
-                    suit g.S.vars c.vars R.vars && all (λ v. not (holds taken v)) c.vars ≡ false →
-                    invert_rule g.S g.inversion R g.names (made I W m) ≡ refuse 42 0 (made I W m)
-                decide false y b x k = turn_unsuited g.S g.inversion R g.names (made I W m) c here.is y
-                decide true y b x k =
-                    turn_taken g.S g.inversion R g.names (made I W m) c here.is y
-                    (sym news ∙ sym (and_true (suit g.S.vars c.vars R.vars) (all (λ v. not (holds taken v)) c.vars) y) ∙ k)
+          pub turn_missing : {q : Question} → ((h : CaseVarsGiven goals text vars rulevars n.vars cells p r need) →
+              (q ≡ CaseVariables) × (suit h.S.vars h.c.vars (rule h.S.theory r).vars && all (λ v. not (holds taken v)) h.c.vars ≡ false)) →
+              Stopped I W I W m (invert_rule g.S g.inversion R g.names (made I W m)) (number_of q) (detail_of q) m
+          turn_missing {q} u =
+              subst (λ (z : Question). Stopped I W I W m (invert_rule g.S g.inversion R g.names (made I W m)) (number_of z) (detail_of z) m) (sym (u turn_case).0)
+              (pure_stopped g.refers.reads.good
+              (decide (suit g.S.vars c.vars R.vars) refl (all (λ v. not (holds taken v)) c.vars) refl (u turn_case).1))
+            where
+              decide : (a : Bool) → suit g.S.vars c.vars R.vars ≡ a → (b : Bool) → all (λ v. not (holds taken v)) c.vars ≡ b →
+                  suit g.S.vars c.vars R.vars && all (λ v. not (holds taken v)) c.vars ≡ false →
+                  invert_rule g.S g.inversion R g.names (made I W m) ≡ refuse 42 0 (made I W m)
+              decide false y b x k = turn_unsuited g.S g.inversion R g.names (made I W m) c here.is y
+              decide true y b x k =
+                  turn_taken g.S g.inversion R g.names (made I W m) c here.is y
+                  (sym news ∙ sym (and_true (suit g.S.vars c.vars R.vars) (all (λ v. not (holds taken v)) c.vars) y) ∙ k)
 
-            module _ {fact : ℕ} (z : f ≡ some fact) where
-              pub are : CaseVarsAre g.S R.vars c taken new-taken list fact
-              are = subst (λ (z : Option ℕ). CaseVarsAs g.S R.vars c taken new-taken list z) z (u turn_case)
+          module _ {new-taken list : List ℕ} {fact : ℕ}
+              (u : (h : CaseVarsGiven goals text vars rulevars n.vars cells p r need) → CaseVarsAre h.S (rule h.S.theory r).vars h.c taken new-taken list fact) where
+            abbrev pub are : CaseVarsAre g.S R.vars c taken new-taken list fact
+            are = u turn_case
 
-              pub list_is : take need list ≡ c.vars
-              list_is = ap (λ (k : ℕ). take k list) need_is ∙ are.numbers
+            pub list_is : take need list ≡ c.vars
+            list_is = ap (λ (k : ℕ). take k list) need_is ∙ are.numbers
 
-              pub list_low : There count (take need list)
-              list_low k t =
-                  let low = (vars_listed g.S.vars (item here.case.inner 2) c.vars here.case.vars).below in
-                  subst (λ (xs : List ℕ). get_or xs k 0 < count) (sym list_is)
-                  (omega (arith, all_at c.vars k 0 low (subst (λ (xs : List ℕ). k < length xs) list_is t), g.more))
+            pub list_low : There count (take need list)
+            list_low k t =
+                let low = (vars_listed g.S.vars (item here.case.inner 2) c.vars here.case.vars).below in
+                subst (λ (xs : List ℕ). get_or xs k 0 < count) (sym list_is)
+                (omega (arith, all_at c.vars k 0 low (subst (λ (xs : List ℕ). k < length xs) list_is t), g.more))
 
-              -- what `with_case` asks
-              abbrev pub turn_having : {ids : List ℕ} → ids ≡ replicate 40960 0 → Having symbols rules patterns facts lists n I W m r s j (take need list) context count ids
-              turn_having zero =
-                  record {
-                    recalls = refers_recalls g.refers;
-                    meeting =
-                        record {
-                          T = g.S.theory;
-                          formed = turn_formed;
-                          known = l;
-                          good = g.refers.reads.good;
-                          there = g.hypothesis_there;
-                          below = below_up (length g.S.vars) count g.more (tree I W m s) hypothesis_low;
-                          few = g.few;
-                          many = ap length list_is ∙ are.many;
-                          names = list_low;
-                          cells = cells_zeros m.terms;
-                        };
-                    theory = refl;
-                    there = g.judgment_there;
-                    known = g.context_there;
-                    zero = zero;
-                  }
+            -- what `with_case` asks
+            abbrev pub turn_having : {ids : List ℕ} → ids ≡ replicate 40960 0 → Having symbols rules patterns facts lists n I W m r s j (take need list) context count ids
+            turn_having zero =
+                record {
+                  recalls = refers_recalls g.refers;
+                  meeting =
+                      record {
+                        T = g.S.theory;
+                        formed = turn_formed;
+                        known = l;
+                        good = g.refers.reads.good;
+                        there = g.hypothesis_there;
+                        below = below_up (length g.S.vars) count g.more (tree I W m s) hypothesis_low;
+                        few = g.few;
+                        many = ap length list_is ∙ are.many;
+                        names = list_low;
+                        cells = cells_zeros m.terms;
+                      };
+                  theory = refl;
+                  there = g.judgment_there;
+                  known = g.context_there;
+                  zero = zero;
+                }
 
-              having : On I W m (invert_rule g.S g.inversion R g.names (made I W m)) I W m
-                  (then (has_case g.S (take need list) count (tree I W m s) R context fact (tree I W m j) (made I W m))
-                  (λ z E. ok (record { vars = g.names.vars; seen = g.names.seen ++ c.vars }) E))
-              having =
-                  on_is (on_start g.refers.reads.good)
-                  (turn_has g.S g.inversion R g.names (made I W m) c here.is are.suits (sym news ∙ are.new)
-                  ∙ (λ i. then (has_case g.S (sym list_is i) (names_long i) (g.hypothesis i) R (g.context_is i) (sym are.fact_is i) (g.judgment i) (made I W m))
-                  (λ z E. ok (record { vars = g.names.vars; seen = g.names.seen ++ c.vars }) E)))
+            having : On I W m (invert_rule g.S g.inversion R g.names (made I W m)) I W m
+                (then (has_case g.S (take need list) count (tree I W m s) R context fact (tree I W m j) (made I W m))
+                (λ z E. ok (record { vars = g.names.vars; seen = g.names.seen ++ c.vars }) E))
+            having =
+                on_is (on_start g.refers.reads.good)
+                (turn_has g.S g.inversion R g.names (made I W m) c here.is are.suits (sym news ∙ are.new)
+                ∙ (λ i. then (has_case g.S (sym list_is i) (names_long i) (g.hypothesis i) R (g.context_is i) (sym are.fact_is i) (g.judgment i) (made I W m))
+                (λ z E. ok (record { vars = g.names.vars; seen = g.names.seen ++ c.vars }) E)))
 
-              module _ (J X : List ℕ) (b : Bound)
-                  (k : JudgedAs I W J X m (has_case g.S (take need list) count (tree I W m s) R context fact (tree I W m j) (made I W m)) b) where
-                pub turn_judged : {new : Mark} → b ≡ bound.Ok new →
-                    Turned I W J X m g.S g.inversion (invert_rule g.S g.inversion R g.names (made I W m)) new-taken sorts count count new
-                turn_judged t =
-                    record {
-                      names = record { vars = g.names.vars; seen = g.names.seen ++ c.vars };
-                      went = on_done (on_ok _ having
-                          (subst (λ (b : Bound). JudgedAs I W J X m (has_case g.S (take need list) count (tree I W m s) R context fact (tree I W m j) (made I W m)) b) t k));
-                      taken_is = taken_more (holds taken) (holds new-taken) (taken_vars g.S g.inversion) g.names.seen c.vars g.taken_is are.takes;
-                      vars_are = g.vars_are;
-                      more = omega arith;
-                      few = g.few;
-                    }
-
-                pub turn_refused : {q d : ℕ} {new : Mark} → b ≡ bound.No q d new →
-                    Stopped I W J X m (invert_rule g.S g.inversion R g.names (made I W m)) q d new
-                turn_refused t =
-                    on_no _ having
-                    (subst (λ (b : Bound). JudgedAs I W J X m (has_case g.S (take need list) count (tree I W m s) R context fact (tree I W m j) (made I W m)) b) t k)
+            pub turn_judged : length new-taken ≡ length taken → (J X : List ℕ) (new : Mark) (b : Answer) →
+                JudgedBy I W J X m new (has_case g.S (take need list) count (tree I W m s) R context fact (tree I W m j) (made I W m)) b →
+                TurnedBy I W J X m new g.S g.inversion (invert_rule g.S g.inversion R g.names (made I W m)) new-taken sorts count count b
+            turn_judged t J X new (Ok _) k =
+                record {
+                  names = record { vars = g.names.vars; seen = g.names.seen ++ c.vars };
+                  went = on_done (on_ok _ having k);
+                  taken_is = taken_more (holds taken) (holds new-taken) (taken_vars g.S g.inversion) g.names.seen c.vars g.taken_is are.takes;
+                  vars_are = g.vars_are;
+                  more = omega arith;
+                  few = g.few;
+                  taken_long = t ∙ g.taken_long;
+                  sorts_long = g.sorts_long;
+                  others = g.others;
+                }
+            turn_judged t J X new (Err q) k = on_no _ having k

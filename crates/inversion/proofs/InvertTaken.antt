@@ -15,9 +15,9 @@ use Rattle.rules.specs.State.{Fact, mentioned}
 use Rattle.rules.specs.Invert.{Inversion, mentioned_at, context_vars, taken_vars}
 use Rattle.rules.specs.Laws.Set.{union_assoc, union_empty}
 use Rattle.terms.specs.declared.store.Mark.{Mark}
-use Rattle.terms.specs.Table.{tree, Good}
+use Rattle.terms.specs.Table.{tree}
 use Rattle.terms.specs.Sets.{holds}
-use Rattle.terms.specs.Collect.{Seen, Readable, Visited}
+use Rattle.terms.specs.Collect.{Seen, Visited}
 use Rattle.terms.specs.Laws.Sets.{holds_zero}
 use Rattle.state.specs.declared.sizes.Sizes.{Sizes}
 use Rattle.state.specs.RowCells.{no_fact}
@@ -33,11 +33,6 @@ context_next fs h hs l = ap (λ (o : Option Fact). λ (v : ℕ). mentioned_at o 
 context_none : (fs : List Fact) → context_vars fs [] ≡ empty
 unfolding context_vars
 context_none fs = refl
-
--- what `visit` asks
-pub taken_reads : {I W : List ℕ} {m : Mark} {id : ℕ} {seen set : List ℕ} → Good I W m → id < m.terms → length seen ≡ TERMWORDS → length set ≡ VARIABLEWORDS →
-    Readable I W m id seen set
-taken_reads g t a b = record { good = g; there = t; wide = omega (arith, a); broad = omega (arith, b) }
 
 -- what is left of the context decides
 pub record Taking (facts lists : List ℕ) (n : Sizes) (I W : List ℕ) (m : Mark) (s j : ℕ) (context seen set : List ℕ) (k : ℕ) : Type 0 where

@@ -1,7 +1,9 @@
 -- Questions 34, 43 and 44 of a case of `invert`, from the fact's row and the sets. Assumes nothing.
 use mathlib.Core.Path.{◌≡◌, refl, sym, ap, ◌∙◌, subst}
 use mathlib.Core.Bool.{Bool, true, false, not}
-use Rattle.std.specs.Prelude.{Option, Some as some, None as nothing}
+use Rattle.std.specs.Prelude.{Option, Some as some, None as nothing, Result, Ok, Err}
+use Rattle.questions.specs.declared.Question.{Question}
+use Rattle.questions.specs.declared.Question.TheVariants.{Earlier, CaseJudgment, CaseHypotheses}
 use mathlib.Core.List.{List, [], ◌∷◌}
 use Prim.Native.Nat.{ℕ, zero, suc, ◌*◌, ◌<◌, ◌≤◌}
 use native.Mathlib.Omega.{arith}
@@ -29,6 +31,9 @@ use Rattle.inversion.specs.InvertRules.{Verdict, verdict_of}
 use Rattle.referring.specs.Laws.Refers.{fact_asks}
 use Rattle.state.specs.Looking.{not_late, is_late}
 
+abbrev pub Answer : Type 0
+Answer = Result (Unit {0}) Question
+
 same_at : (M : Made) → Apart M → (i j : ℕ) → i < length M → j < length M → same_tree (get_or M i (var 0)) (get_or M j (var 0)) ≡ eqb i j
 unfolding Apart
 same_at M a i j h k = elim (ℕ_discrete i j) [
@@ -49,14 +54,14 @@ module _ {facts : List ℕ} {n : Sizes} {i t : ℕ} {own : List ℕ} (g : Verdic
   abbrev wanted : Tree
   wanted = get_or trees t (var 0)
 
-  pub verdict_missing : (plain fine : Set) → not b ≡ true → 34 ≡ verdict_of g.given.S trees i wanted plain fine
+  pub verdict_missing : (plain fine : Set) → not b ≡ true → Err Earlier ≡ verdict_of g.given.S trees i wanted plain fine
   unfolding verdict_of
   verdict_missing plain fine q =
-      sym (ap (λ (o : Option Fact). elim o as (λ (o : Option Fact). ℕ) [
-        | nothing ↦ 34
-        | some f ↦ elim (same_tree f.judgment wanted) as (λ (c : Bool). ℕ) [
-          | false ↦ 43
-          | true ↦ elim (all (λ h. rests_by trees (fact_of g.given.S h) h plain fine) f.hyps) as (λ (c : Bool). ℕ) [ true ↦ 0 | false ↦ 44 ]
+      sym (ap (λ (o : Option Fact). elim o as (λ (o : Option Fact). Answer) [
+        | nothing ↦ Err Earlier
+        | some f ↦ elim (same_tree f.judgment wanted) as (λ (c : Bool). Answer) [
+          | false ↦ Err CaseJudgment
+          | true ↦ elim (all (λ h. rests_by trees (fact_of g.given.S h) h plain fine) f.hyps) as (λ (c : Bool). Answer) [ true ↦ Ok tt | false ↦ Err CaseHypotheses ]
         ]
       ]) (no_entry g.given.S.facts i (omega (arith, is_late i n.facts b e q, g.given.recorded.many))))
 
@@ -90,30 +95,30 @@ module _ {facts : List ℕ} {n : Sizes} {i t : ℕ} {own : List ℕ} (g : Verdic
       rests hs = all (λ h. rests_by trees (fact_of g.given.S h) h plain fine) hs
 
       here : (c : Bool) → same_tree (fact_of g.given.S i).judgment wanted ≡ c →
-          verdict_of g.given.S trees i wanted plain fine ≡ elim c as (λ (c : Bool). ℕ) [ false ↦ 43 | true ↦ elim (rests (fact_of g.given.S i).hyps) as (λ (c : Bool). ℕ) [ true ↦ 0 | false ↦ 44 ] ]
+          verdict_of g.given.S trees i wanted plain fine ≡ elim c as (λ (c : Bool). Answer) [ false ↦ Err CaseJudgment | true ↦ elim (rests (fact_of g.given.S i).hyps) as (λ (c : Bool). Answer) [ true ↦ Ok tt | false ↦ Err CaseHypotheses ] ]
       unfolding verdict_of
       here c z =
-          ap (λ (o : Option Fact). elim o as (λ (o : Option Fact). ℕ) [
-            | nothing ↦ 34
-            | some f ↦ elim (same_tree f.judgment wanted) as (λ (c : Bool). ℕ) [
-              | false ↦ 43
-              | true ↦ elim (rests f.hyps) as (λ (c : Bool). ℕ) [ true ↦ 0 | false ↦ 44 ]
+          ap (λ (o : Option Fact). elim o as (λ (o : Option Fact). Answer) [
+            | nothing ↦ Err Earlier
+            | some f ↦ elim (same_tree f.judgment wanted) as (λ (c : Bool). Answer) [
+              | false ↦ Err CaseJudgment
+              | true ↦ elim (rests f.hyps) as (λ (c : Bool). Answer) [ true ↦ Ok tt | false ↦ Err CaseHypotheses ]
             ]
           ]) row.is
-          ∙ ap (λ (d : Bool). elim d as (λ (d : Bool). ℕ) [ false ↦ 43 | true ↦ elim (rests (fact_of g.given.S i).hyps) as (λ (c : Bool). ℕ) [ true ↦ 0 | false ↦ 44 ] ]) z
+          ∙ ap (λ (d : Bool). elim d as (λ (d : Bool). Answer) [ false ↦ Err CaseJudgment | true ↦ elim (rests (fact_of g.given.S i).hyps) as (λ (c : Bool). Answer) [ true ↦ Ok tt | false ↦ Err CaseHypotheses ] ]) z
 
       module _ {j : ℕ} (k : j ≡ cell 6 facts i 0) where
-        pub verdict_other : (j ≡ t → ⊥) → 43 ≡ verdict_of g.given.S trees i wanted plain fine
+        pub verdict_other : (j ≡ t → ⊥) → Err CaseJudgment ≡ verdict_of g.given.S trees i wanted plain fine
         verdict_other d = sym (here false (same_judgment ∙ ne_eqb (cell 6 facts i 0) t (λ z. d (k ∙ z))))
 
         module _ (d : j ≡ t) {r : Bool} (f : r ≡ rests own) where
-          decided : (c : Bool) → r ≡ c → verdict_of g.given.S trees i wanted plain fine ≡ elim c as (λ (c : Bool). ℕ) [ true ↦ 0 | false ↦ 44 ]
+          decided : (c : Bool) → r ≡ c → verdict_of g.given.S trees i wanted plain fine ≡ elim c as (λ (c : Bool). Answer) [ true ↦ Ok tt | false ↦ Err CaseHypotheses ]
           decided c z =
               here true (same_judgment ∙ eq-eqb (cell 6 facts i 0) t (sym k ∙ d))
-              ∙ ap (λ (e : Bool). elim e as (λ (c : Bool). ℕ) [ true ↦ 0 | false ↦ 44 ]) (ap rests (sym own_hyps) ∙ sym f ∙ z)
+              ∙ ap (λ (e : Bool). elim e as (λ (c : Bool). Answer) [ true ↦ Ok tt | false ↦ Err CaseHypotheses ]) (ap rests (sym own_hyps) ∙ sym f ∙ z)
 
-          pub verdict_not : r ≡ false → 44 ≡ verdict_of g.given.S trees i wanted plain fine
+          pub verdict_not : r ≡ false → Err CaseHypotheses ≡ verdict_of g.given.S trees i wanted plain fine
           verdict_not z = sym (decided false z)
 
-          pub verdict_fine : r ≡ true → 0 ≡ verdict_of g.given.S trees i wanted plain fine
+          pub verdict_fine : r ≡ true → Ok tt ≡ verdict_of g.given.S trees i wanted plain fine
           verdict_fine z = sym (decided true z)

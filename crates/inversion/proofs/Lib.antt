@@ -5,6 +5,7 @@ pub mod InvertKeeps
 pub mod InvertLacks
 pub mod InvertMeets
 pub mod InvertNames
+pub mod InvertNaming
 pub mod InvertOn
 pub mod InvertRests
 pub mod InvertRounds

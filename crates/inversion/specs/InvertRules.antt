@@ -1,7 +1,7 @@
 -- One rule of `invert`: its renaming, its unification, its case; and what is carried from rule to rule. Variables that are made come into a table of
 -- sorts, from which their rows are written at the end. Assumes nothing.
-use Rattle.std.specs.Prelude.{◌≡◌, true, false, ◌&&◌, not, List, [], ◌∷◌, ◌++◌, ℕ, ◌+◌, ◌-◌, ◌*◌, ◌^◌, ◌<◌, ◌≤◌, ltb, length, get_or, take, drop, replicate, Option, Some as some, None as nothing}
-use Rattle.rules.specs.Limits.{VARIABLES, RULEVARS, TERMS, PAIRS, VARIABLEWORDS}
+use Rattle.std.specs.Prelude.{◌≡◌, true, false, ◌&&◌, not, Bool, List, [], ◌∷◌, ◌++◌, ℕ, ◌+◌, ◌-◌, ◌*◌, ◌^◌, ◌<◌, ◌≤◌, ltb, length, get_or, take, drop, replicate, Option, Some as some, None as nothing, Result, Ok, Err}
+use Rattle.rules.specs.Limits.{VARIABLES, RULEVARS, TERMS, PAIRS, VARIABLEWORDS, TERMWORDS}
 use Rattle.rules.specs.Out.{Out, ok, refuse, Act, ◌>>=◌, pure, stop, ask}
 use Rattle.rules.specs.Sexp.{Sexp, Sexps, cons, count as count_items, item}
 use Rattle.rules.specs.Find.{Set, union, has, all, entry}
@@ -17,9 +17,11 @@ use Rattle.rules.specs.Laws.Theory.{All}
 use Rattle.rules.proofs.Laws.Below.{Below}
 use Rattle.sexp.specs.Items.{Holds}
 use Rattle.sexp.specs.WalkLaws.{Walk}
+use Rattle.questions.specs.declared.Row.{Row}
+use Rattle.questions.specs.declared.Question.{Question}
+use Rattle.questions.specs.declared.Question.TheVariants.{Earlier, CaseVariables, CaseJudgment, CaseHypotheses}
+use Rattle.questions.specs.Numbers.{row_number, number_of, detail_of}
 use Rattle.terms.specs.declared.store.Mark.{Mark}
-use Rattle.unification.specs.declared.apart.Unified.{Unified}
-use Rattle.unification.specs.declared.apart.Unified.TheVariants as unified
 use Rattle.terms.specs.Table.{made, tree, Good}
 use Rattle.terms.specs.Sets.{holds}
 use Rattle.terms.specs.Theta.{bindings, Theta}
@@ -32,10 +34,6 @@ use Rattle.state.specs.declared.facts.Span.{Span}
 use Rattle.state.specs.Rows.{hyps_span}
 use Rattle.state.specs.Entries.{part}
 use Rattle.state.specs.Held.{VarsHeld, Names as Texts, RuleLists, Ruled}
-use Rattle.reading.specs.declared.apart.Out.{Out as Answer}
-use Rattle.reading.specs.declared.apart.Out.TheVariants as out
-use Rattle.reading.specs.declared.apart.Bound.{Bound}
-use Rattle.reading.specs.declared.apart.Bound.TheVariants as bound
 use Rattle.referring.specs.Recall.{Refers, Recalls, fact_of}
 use Rattle.casework.specs.Cases.{CaseItem, no_case}
 use Rattle.casework.specs.Context.{There, RenamedRule, RestsGiven, rests_by}
@@ -64,16 +62,23 @@ nameless (s ∷ ss) = record { sort = s; text = 0; name = no_name } ∷ nameless
 abbrev pub vars_with : List Var → List ℕ → ℕ → List Var
 vars_with vs sorts k = vs ++ nameless (take (k - length vs) (drop (length vs) sorts))
 
+-- cells of sorts are zero but for those of the variables made, from `base` on
+pub record Unmade (base count : ℕ) (sorts : List ℕ) : Type 0 where
+  pub before : (v : ℕ) → v < base → get_or sorts v 0 ≡ 0
+  pub behind : (v : ℕ) → count ≤ v → get_or sorts v 0 ≡ 0
+
 -- a variable more for each of the rule's, and their numbers are in the first cells
 pub record VarsMade (vs : List Var) (rs : List RuleVar) (sorts sorts' : List ℕ) (old : ℕ) (list : List ℕ) (new : ℕ) : Type 0 where
   pub makes : (M : Made) → make_vars rs (vars_with vs sorts old) M ≡ ok (vars_with vs sorts' new) M
   pub many : new ≡ old + length rs
   pub few : new ≤ VARIABLES
   pub numbers : take (length rs) list ≡ up_from old (length rs)
+  pub long : length sorts' ≡ VARIABLES
+  pub others : (base : ℕ) → base ≤ old → Unmade base old sorts → Unmade base new sorts'
 
-abbrev pub MadeAs : List Var → List RuleVar → List ℕ → List ℕ → ℕ → List ℕ → Option ℕ → Type 0
-MadeAs vs rs sorts sorts' old list (some new) = VarsMade vs rs sorts sorts' old list new
-MadeAs vs rs sorts sorts' old list nothing = (M : Made) → make_vars rs (vars_with vs sorts old) M ≡ refuse 60 7 M
+abbrev pub MadeAs : List Var → List RuleVar → List ℕ → List ℕ → ℕ → ℕ → List ℕ → Result (Unit {0}) Row → Type 0
+MadeAs vs rs sorts sorts' old new list (Ok _) = VarsMade vs rs sorts sorts' old list new
+MadeAs vs rs sorts sorts' old new list (Err row) = (M : Made) → make_vars rs (vars_with vs sorts old) M ≡ refuse 60 (row_number row) M
 
 -- the case at a place, and the rule that it is of
 pub record CaseVarsGiven (goals text vars rulevars : List ℕ) (count : ℕ) (cells : List ℕ) (p r need : ℕ) : Type 0 where
@@ -98,9 +103,9 @@ pub record CaseVarsAre (S : State) (rs : List RuleVar) (c : Case) (taken taken' 
   pub numbers : take (length rs) list ≡ c.vars
   pub takes : holds taken' ≡ union (holds taken) (has c.vars)
 
-abbrev pub CaseVarsAs : State → List RuleVar → Case → List ℕ → List ℕ → List ℕ → Option ℕ → Type 0
-CaseVarsAs S rs c taken taken' list (some fact) = CaseVarsAre S rs c taken taken' list fact
-CaseVarsAs S rs c taken taken' list nothing = suit S.vars c.vars rs && all (λ v. not (holds taken v)) c.vars ≡ false
+abbrev pub CaseVarsAs : State → List RuleVar → Case → List ℕ → List ℕ → List ℕ → Result ℕ Question → Type 0
+CaseVarsAs S rs c taken taken' list (Ok fact) = CaseVarsAre S rs c taken taken' list fact
+CaseVarsAs S rs c taken taken' list (Err q) = (q ≡ CaseVariables) × (suit S.vars c.vars rs && all (λ v. not (holds taken v)) c.vars ≡ false)
 
 -- variables as terms, in cells
 pub record VarsKept (I W J X : List ℕ) (old : Mark) (list bound : List ℕ) (new : Mark) : Type 0 where
@@ -109,18 +114,18 @@ pub record VarsKept (I W J X : List ℕ) (old : Mark) (list bound : List ℕ) (n
   pub binds : (i : ℕ) → i < length list → bound_of (made J X new) bound i ≡ some (renaming list i)
   pub cells : Cells new.terms bound
 
-abbrev pub KeptAs : List ℕ → List ℕ → List ℕ → List ℕ → Mark → List ℕ → List ℕ → Bound → Type 0
-KeptAs I W J X old list into (bound.Ok new) = VarsKept I W J X old list into new
-KeptAs I W J X old list into (bound.No q d new) = Stopped I W J X old (keep_vars list (made I W old)) 60 d new
+abbrev pub KeptBy : List ℕ → List ℕ → List ℕ → List ℕ → Mark → Mark → List ℕ → List ℕ → Result (Unit {0}) Row → Type 0
+KeptBy I W J X old new list into (Ok _) = VarsKept I W J X old list into new
+KeptBy I W J X old new list into (Err row) = Stopped I W J X old (keep_vars list (made I W old)) 60 (row_number row) new
 
 -- The rule meets the hypothesis ------------------------------------------------------------------------------------------------------------
 
 -- scratch, all of it zero
-pub record Empty (theta map memo pairs : List ℕ) : Type 0 where
-  pub thetas : theta ≡ replicate VARIABLES 0
+pub record Empty (map memo pairs seen : List ℕ) : Type 0 where
   pub maps : map ≡ replicate VARIABLES 0
   pub memos : memo ≡ replicate TERMS 0
   pub many : pairs ≡ replicate (2 * PAIRS) 0
+  pub visits : seen ≡ replicate TERMWORDS 0
 
 pub record Meeting (symbols rules patterns : List ℕ) (n : Sizes) (I W : List ℕ) (m : Mark) (r s count : ℕ) (list bound : List ℕ) : Type 0 where
   pub T : Theory
@@ -148,10 +153,10 @@ pub record Met (I W J X : List ℕ) (old : Mark) (K : Out Made (Option (List Bin
   pub binds : (i : ℕ) → i < length list → bound_of (made J X new) bound i ≡ some (renaming list i)
   pub cells : Cells new.terms bound
 
-abbrev pub MetAs : List ℕ → List ℕ → List ℕ → List ℕ → Mark → Out Made (Option (List Binding)) → List ℕ → List ℕ → List ℕ → Unified → Type 0
-MetAs I W J X old K list bound theta (unified.Found new) = Met I W J X old K list bound theta new
-MetAs I W J X old K list bound theta (unified.Apart new) = Went I W J X old K nothing new × (theta ≡ replicate VARIABLES 0)
-MetAs I W J X old K list bound theta (unified.Full q new) = Stopped I W J X old K 60 q new × (theta ≡ replicate VARIABLES 0)
+abbrev pub MetBy : List ℕ → List ℕ → List ℕ → List ℕ → Mark → Mark → Out Made (Option (List Binding)) → List ℕ → List ℕ → List ℕ → Result Bool Question → Type 0
+MetBy I W J X old new K list bound theta (Ok true) = Met I W J X old K list bound theta new
+MetBy I W J X old new K list bound theta (Ok false) = Went I W J X old K nothing new
+MetBy I W J X old new K list bound theta (Err q) = Stopped I W J X old K (number_of q) (detail_of q) new
 
 -- A case is judged -------------------------------------------------------------------------------------------------------------------------
 
@@ -190,19 +195,20 @@ pub record Verdict (facts : List ℕ) (n : Sizes) (i t : ℕ) (own : List ℕ) :
   pub there : t < length given.trees
   pub owns : own ≡ part given.lists (own_span facts n i)
 
--- question 34, 43 or 44, by the sets; 0 for none
-unfoldable pub verdict_of : State → Made → ℕ → Tree → Set → Set → ℕ
+-- question 34, 43 or 44, by the sets
+unfoldable pub verdict_of : State → Made → ℕ → Tree → Set → Set → Result (Unit {0}) Question
 verdict_of S M i t plain fine = elim (entry S.facts i) [
-  | nothing ↦ 34
+  | nothing ↦ Err Earlier
   | some f ↦ elim (same_tree f.judgment t) [
-    | false ↦ 43
-    | true ↦ elim (all (λ h. rests_by M (fact_of S h) h plain fine) f.hyps) [ true ↦ 0 | false ↦ 44 ]
+    | false ↦ Err CaseJudgment
+    | true ↦ elim (all (λ h. rests_by M (fact_of S h) h plain fine) f.hyps) [ true ↦ Ok tt | false ↦ Err CaseHypotheses ]
   ]
 ]
 
-abbrev pub JudgedAs : List ℕ → List ℕ → List ℕ → List ℕ → Mark → Out Made (Unit {0}) → Bound → Type 0
-JudgedAs I W J X old K (bound.Ok new) = Went I W J X old K tt new
-JudgedAs I W J X old K (bound.No q d new) = Stopped I W J X old K q d new
+-- K answers, or refuses by the question
+abbrev pub JudgedBy : List ℕ → List ℕ → List ℕ → List ℕ → Mark → Mark → Out Made (Unit {0}) → Result (Unit {0}) Question → Type 0
+JudgedBy I W J X old new K (Ok _) = Went I W J X old K tt new
+JudgedBy I W J X old new K (Err q) = Stopped I W J X old K (number_of q) (detail_of q) new
 
 -- A rule without a case, and one with it ---------------------------------------------------------------------------------------------------
 
@@ -219,6 +225,7 @@ pub record Lacking (symbols rules rulevars patterns : List ℕ) (n : Sizes) (I W
   pub more : length vs ≤ count
   pub few : count ≤ VARIABLES
   pub long : length sorts ≡ VARIABLES
+  pub others : Unmade (length vs) count sorts
 
 -- variables are made, and there must be no unifier
 abbrev pub lacks : List Var → Tree → Rule → Act Made (List Var)
@@ -231,10 +238,12 @@ pub record Lacked (I W J X : List ℕ) (old : Mark) (vs : List Var) (K : Out Mad
   pub went : Went I W J X old K (vars_with vs sorts count) new
   pub more : base ≤ count
   pub few : count ≤ VARIABLES
+  pub long : length sorts ≡ VARIABLES
+  pub others : Unmade (length vs) count sorts
 
-abbrev pub LackedAs : List ℕ → List ℕ → List ℕ → List ℕ → Mark → List Var → Out Made (List Var) → List ℕ → ℕ → Answer → Type 0
-LackedAs I W J X old vs K sorts base (out.Ok count new) = Lacked I W J X old vs K sorts base count new
-LackedAs I W J X old vs K sorts base (out.No q d new) = Stopped I W J X old K q d new
+abbrev pub LackedBy : List ℕ → List ℕ → List ℕ → List ℕ → Mark → Mark → List Var → Out Made (List Var) → List ℕ → ℕ → ℕ → Result (Unit {0}) Question → Type 0
+LackedBy I W J X old new vs K sorts base count (Ok _) = Lacked I W J X old vs K sorts base count new
+LackedBy I W J X old new vs K sorts base count (Err q) = Stopped I W J X old K (number_of q) (detail_of q) new
 
 pub record Having (symbols rules patterns facts lists : List ℕ) (n : Sizes) (I W : List ℕ) (m : Mark) (r s j : ℕ) (list context : List ℕ) (count : ℕ) (ids : List ℕ) : Type 0 where
   pub recalls : Recalls facts lists n I W m
@@ -277,6 +286,7 @@ pub record Turning (K : Texts) (P : RuleLists) (facts lists : List ℕ) (n : Siz
   pub more : length S.vars ≤ count
   pub few : count ≤ VARIABLES
   pub sorts_long : length sorts ≡ VARIABLES
+  pub others : Unmade (length S.vars) count sorts
   pub low : Below (length S.vars) inversion.hypothesis
 
 -- what the next rule is given
@@ -287,7 +297,10 @@ pub record Turned (I W J X : List ℕ) (old : Mark) (S : State) (Y : Inversion) 
   pub vars_are : names.vars ≡ vars_with S.vars sorts count
   pub more : base ≤ count
   pub few : count ≤ VARIABLES
+  pub taken_long : length taken ≡ VARIABLEWORDS
+  pub sorts_long : length sorts ≡ VARIABLES
+  pub others : Unmade (length S.vars) count sorts
 
-abbrev pub TurnedAs : List ℕ → List ℕ → List ℕ → List ℕ → Mark → State → Inversion → Out Made Names → List ℕ → List ℕ → ℕ → Answer → Type 0
-TurnedAs I W J X old S Y K taken sorts base (out.Ok count new) = Turned I W J X old S Y K taken sorts base count new
-TurnedAs I W J X old S Y K taken sorts base (out.No q d new) = Stopped I W J X old K q d new
+abbrev pub TurnedBy : List ℕ → List ℕ → List ℕ → List ℕ → Mark → Mark → State → Inversion → Out Made Names → List ℕ → List ℕ → ℕ → ℕ → Result (Unit {0}) Question → Type 0
+TurnedBy I W J X old new S Y K taken sorts base count (Ok _) = Turned I W J X old S Y K taken sorts base count new
+TurnedBy I W J X old new S Y K taken sorts base count (Err q) = Stopped I W J X old K (number_of q) (detail_of q) new

@@ -1,2 +1,3 @@
+pub mod Inverting
 pub mod InvertRules
 pub mod Inversions

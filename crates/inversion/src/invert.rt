@@ -1,343 +1,187 @@
 // `(invert N K (HYP...) JUDGMENT (CASE...))`: the plain hypothesis K was derived by some rule of its predicate. Each rule whose conclusion unifies with it
 // has a case, a fact that concludes the judgment under the unifier.
-ghost use Rattle.std.specs.Prelude.{◌≡◌, List, ℕ, ◌*◌, ◌<◌, ◌≤◌, length, replicate};
-ghost use Rattle.rules.specs.Limits.{VARIABLES, PAIRS, VARIABLEWORDS};
-ghost use Rattle.rules.specs.Find.{rising};
+ghost use Rattle.std.specs.Prelude.{◌≡◌, List, ℕ, ◌<◌, ◌≤◌, length, replicate};
+ghost use Rattle.rules.specs.Limits.{VARIABLES, TERMS, VARIABLEWORDS, FACTWORDS};
 ghost use Rattle.rules.specs.State.{Var};
-ghost use Rattle.rules.specs.Theory.{rules_of};
-ghost use Rattle.rules.specs.Invert.{Inversion, invert, invert_rules, taken_vars, predicate_of};
-ghost use Rattle.terms.specs.Table.{made, tree, Good};
+ghost use Rattle.rules.specs.Invert.{Inversion, invert, taken_vars};
+ghost use Rattle.terms.specs.Table.{tree};
+ghost use Rattle.terms.specs.Lent.{SameTables, made_of};
 ghost use Rattle.terms.specs.Sets.{holds};
-ghost use Rattle.state.specs.Held.{VarsHeld, names, rule_lists};
-ghost use Rattle.referring.specs.Recall.{Recalls};
-ghost use Rattle.referring.specs.Derived.{Blank};
+ghost use Rattle.state.specs.Held.{VarsHeld};
+ghost use Rattle.referring.specs.Sources.{RecallsIn};
 ghost use Rattle.casework.specs.Context.{There};
-ghost use Rattle.inversion.specs.InvertRules.{Empty, Turning, TurnedAs, vars_with};
-ghost use Rattle.inversion.specs.Inversions.{InvertForm, InvertingOn, invert_on, InvertedOnAs, InvertedAs};
+ghost use Rattle.inversion.specs.InvertRules.{vars_with};
+ghost use Rattle.inversion.specs.Inversions.{hypothesis_of, HypothesisAs, invert_on};
+ghost use Rattle.inversion.specs.Inverting.{NamesHypothesis, InvertsForm, InvertsOn, InvertedOnAs, InvertedAs};
 
-use crate::invert_rules::invert_rule;
+use crate::inverting::{Cases, Inverting, Variables};
 use casework::cases::read_cases;
-use kernel::rule_readers::next_rule;
-use reading::apart::{Listed, Out, any_hyps, judgment};
+use kernel::rule_readers::Rules;
+use questions::Question;
+use reading::hyps::any_hyps;
 use reading::names::index as index_in;
-use referring::scope::mention;
-use rules::{FACTS, SYMBOLS, TERMWORDS, VARIABLES, VARIABLEWORDS};
+use referring::source::{Facts, Source};
+use referring::support::{Derived, no_support};
+use rules::{FACTS, TERMWORDS, VARIABLES, VARIABLEWORDS};
 use sexp::items;
 use sexp::items::Item;
 use state::facts::{is_fact, is_plain, judgment as judgment_of};
-use state::sizes::Sizes;
 use state::vars::put_var;
-use terms::apart::{head, visit};
 use terms::sets::{insert, write_out};
-use terms::store::Mark;
+use terms::store::{Store, Terms};
+use terms::variables::visit;
 
-// The judgment's number and the number of variables then; or a question and its detail. What is used of the store then.
+// The fact that is derived, and how many variables there are with those made.
 #[derive(Clone, Copy)]
-pub enum Inverted {
-    Ok(usize, usize, Mark),
-    No(usize, usize, Mark),
+pub struct Inverted {
+    pub derived: Derived,
+    pub vars: usize,
 }
 
 // The variables of the hypothesis s, of the judgment j and of the facts of the context, which a case's variables must be new to.
 fn taken_vars(
-    facts: &[u32],
-    lists: &[u32],
-    n: Sizes,
-    index: &[u32],
-    words: &[u32],
-    mark: Mark,
+    facts: &Facts<'_>,
+    terms: &Terms<'_>,
     s: usize,
     j: usize,
     context: &[u32],
     set: &mut [u64],
 )
-    requires { Recalls facts.now lists.now n index.now words.now mark × (s < mark.terms) × (j < mark.terms) × There n.facts context.now × (set.old ≡ replicate VARIABLEWORDS 0) }
-    ensures { (g : Recalls facts.now lists.now n index.now words.now mark) (Y : Inversion) →
-        Y.hypothesis ≡ tree index.now words.now mark s → Y.judgment ≡ tree index.now words.now mark j → Y.context ≡ context.now →
+    requires { RecallsIn facts.now terms.now × (s < terms.now.mark.terms) × (j < terms.now.mark.terms) × There facts.now.n.facts context.now
+        × (set.old ≡ replicate VARIABLEWORDS 0) }
+    ensures { (g : RecallsIn facts.now terms.now) (Y : Inversion) → let t = terms.now in
+        Y.hypothesis ≡ tree t.index.now t.words.now t.mark s → Y.judgment ≡ tree t.index.now t.words.now t.mark j → Y.context ≡ context.now →
         holds set.new ≡ taken_vars g.S Y }
 {
     let mut seen = [0u64; TERMWORDS];
-    visit(index, words, mark, s, &mut seen, set);
-    visit(index, words, mark, j, &mut seen, set);
+    visit(terms, s, &mut seen, set);
+    visit(terms, j, &mut seen, set);
     for h in context {
-        mention(
-            facts,
-            lists,
-            n,
-            index,
-            words,
-            mark,
-            *h as usize,
-            &mut seen,
-            set,
-        );
+        facts.mention(terms, *h as usize, &mut seen, set);
     }
 }
 
-// The rows of the variables from `count` up to `end`, which have no name.
-fn put_made(vars: &mut [u32], sorts: &[u32], count: usize, end: usize)
-    requires { ((goals : List ℕ) × (text : List ℕ) × (vs : List Var) × VarsHeld goals text vars.old count vs) × (count ≤ end) × (end ≤ VARIABLES) × (length sorts.now ≡ VARIABLES) }
-    ensures { (goals text : List ℕ) (vs : List Var) → VarsHeld goals text vars.old count vs → VarsHeld goals text vars.new end (vars_with vs sorts.now end) }
+// The rows of the variables from `count` up to `end`, which were made and have no name; their sorts are in the cells.
+pub fn put_made(vars: &mut [u32], sorts: &[u32], count: usize, end: usize)
+    requires { ((goals : List ℕ) × (text : List ℕ) × (vs : List Var) × VarsHeld goals text vars.old count vs) × (count ≤ end) × (end ≤ VARIABLES)
+        × (length sorts.now ≡ VARIABLES) }
+    ensures { (goals text : List ℕ) (vs : List Var) → VarsHeld goals text vars.old count vs →
+        VarsHeld goals text vars.new end (vars_with vs sorts.now end) }
 {
     for v in count..end {
         put_var(vars, v, sorts[v] as usize, 0, 0, 0);
     }
 }
 
-// The predicate of the term s; 0 where it is a variable.
-fn predicate_of(index: &[u32], words: &[u32], mark: Mark, s: usize) -> usize
-    requires { Good index.now words.now mark × (s < mark.terms) }
-    ensures { result ≡ predicate_of (tree index.now words.now mark s) }
-{
-    let h = head(index, words, s);
-    if h < SYMBOLS {
-        return h;
-    }
-    0
-}
-
-// All rules of the predicate in turn. `map`, `memo`, `theta`, `pairs` and `ids` are scratch: zero before and after.
-fn invert_rules(
-    theory: &[u8],
-    goals: &[u8],
-    text: &[u8],
-    symbols: &[u32],
-    inputs: &[u32],
-    rules: &[u32],
-    rulevars: &[u32],
-    patterns: &[u32],
-    vars: &[u32],
-    defs: &[u32],
-    facts: &[u32],
-    lists: &[u32],
-    n: Sizes,
-    index: &mut [u32],
-    words: &mut [u32],
-    mark: Mark,
-    cells: &[u32],
-    many: usize,
-    s: usize,
-    j: usize,
-    context: &[u32],
-    taken: &mut [u64],
-    sorts: &mut [u32],
-    map: &mut [u32],
-    memo: &mut [u32],
-    theta: &mut [u32],
-    pairs: &mut [u32],
-    ids: &mut [u32],
-) -> Out
-    requires turning { Turning (names theory.now goals.now text.now symbols.now inputs.now vars.now defs.now) (rule_lists theory.now rules.now rulevars.now patterns.now) facts.now lists.now n index.old words.old mark cells.now many s j context.now taken.old sorts.old n.vars }
-    requires empty { Empty theta.old map.old memo.old pairs.old × (ids.old ≡ replicate 40960 0) }
-    ensures turned_as { (g : Turning (names theory.now goals.now text.now symbols.now inputs.now vars.now defs.now) (rule_lists theory.now rules.now rulevars.now patterns.now) facts.now lists.now n index.old words.old mark cells.now many s j context.now taken.old sorts.old n.vars) →
-        TurnedAs index.old words.old index.new words.new mark g.S g.inversion
-        (invert_rules g.S g.inversion (rules_of g.S.theory (predicate_of g.inversion.hypothesis)) g.names (made index.old words.old mark)) taken.new sorts.new n.vars result }
-    ensures empty_2 { Empty theta.new map.new memo.new pairs.new × (ids.new ≡ ids.old) }
-{
-    let predicate = predicate_of(index, words, mark, s);
-    let mut m = mark;
-    let mut count = n.vars;
-    let mut from = 0;
-    // no count: it jumps to the next rule of the predicate
-    while let Some(r) = next_rule(rules, patterns, symbols, n.rules, predicate, from) {
-        match invert_rule(
-            theory, goals, text, symbols, inputs, rules, rulevars, patterns, vars, defs, facts,
-            lists, n, index, words, m, cells, many, s, j, context, r, taken, sorts, count, map,
-            memo, theta, pairs, ids,
-        ) {
-            Out::Ok(k, new) => {
-                count = k;
-                m = new;
-            }
-            Out::No(q, d, new) => {
-                return Out::No(q, d, new);
-            }
-        }
-        from = r + 1;
-    }
-    Out::Ok(count, m)
-}
-
-// The rest of the form behind its judgment j; s: the hypothesis.
-fn invert_on(
-    theory: &[u8],
-    goals: &[u8],
-    text: &[u8],
-    symbols: &[u32],
-    inputs: &[u32],
-    rules: &[u32],
-    rulevars: &[u32],
-    patterns: &[u32],
-    vars: &mut [u32],
-    defs: &[u32],
-    facts: &[u32],
-    lists: &[u32],
-    n: Sizes,
-    index: &mut [u32],
-    words: &mut [u32],
-    mark: Mark,
-    cells: &[u32],
-    s: usize,
-    j: usize,
-    hyps: &[u64],
-    map: &mut [u32],
-    memo: &mut [u32],
-    theta: &mut [u32],
-    pairs: &mut [u32],
-    ids: &mut [u32],
-) -> Out
-    requires inverting_on { InvertingOn (names theory.now goals.now text.now symbols.now inputs.now vars.old defs.now) (rule_lists theory.now rules.now rulevars.now patterns.now) facts.now lists.now n index.old words.old mark cells.now s j hyps.now }
-    requires empty { Empty theta.old map.old memo.old pairs.old × (ids.old ≡ replicate 40960 0) }
-    ensures inverted_on_as { (g : InvertingOn (names theory.now goals.now text.now symbols.now inputs.now vars.old defs.now) (rule_lists theory.now rules.now rulevars.now patterns.now) facts.now lists.now n index.old words.old mark cells.now s j hyps.now) →
-        InvertedOnAs goals.now text.now index.old words.old index.new words.new mark g.form.S
-        (invert_on g.form.S g.form.xs (tree index.old words.old mark s) (tree index.old words.old mark j) (rising n.facts (holds hyps.now)) (made index.old words.old mark)) vars.old vars.new result }
-    ensures empty_2 { Empty theta.new map.new memo.new pairs.new × (ids.new ≡ ids.old) }
-{
-    let Item::List(a, b) = items::nth(cells, 5) else {
-        return Out::No(41, 0, mark);
-    };
-    let inner = &cells[a..b];
-    match read_cases(goals, text, vars, n.vars, inner) {
-        Listed::Ok => {}
-        Listed::No(q) => {
-            return Out::No(q, 0, mark);
-        }
-    }
-    let many = items::count(inner);
-    let mut list = [0u32; FACTS];
-    let context = write_out(hyps, &mut list);
-    let mut taken = [0u64; VARIABLEWORDS];
-    taken_vars(
-        facts,
-        lists,
-        n,
-        index,
-        words,
-        mark,
-        s,
-        j,
-        &list[..context],
-        &mut taken,
-    );
-    let mut sorts = [0u32; VARIABLES];
-    match invert_rules(
-        theory,
-        goals,
-        text,
-        symbols,
-        inputs,
-        rules,
-        rulevars,
-        patterns,
-        vars,
-        defs,
-        facts,
-        lists,
-        n,
-        index,
-        words,
-        mark,
-        inner,
-        many,
-        s,
-        j,
-        &list[..context],
-        &mut taken,
-        &mut sorts,
-        map,
-        memo,
-        theta,
-        pairs,
-        ids,
-    ) {
-        Out::Ok(k, m) => {
-            put_made(vars, &sorts, n.vars, k);
-            Out::Ok(k, m)
-        }
-        Out::No(q, d, m) => Out::No(q, d, m),
+impl Inverting<'_> {
+    // The rest of the form behind its judgment: how many variables there are then. The sorts of made ones come into the cells, each at its number, and
+    // zero into the others. `memo` and `ids` are scratch: zero before and after.
+    fn invert_on(
+        &self,
+        store: &mut Store<'_>,
+        cells: &[u32],
+        sorts: &mut [u32],
+        memo: &mut [u32],
+        ids: &mut [u32],
+    ) -> Result<usize, Question>
+        requires inverts_on { InvertsOn self.now store.old cells.now × (length sorts.old ≡ VARIABLES) }
+        requires empty { (memo.old ≡ replicate TERMS 0) × (ids.old ≡ replicate 40960 0) }
+        ensures same_tables { SameTables store.old store.new }
+        ensures inverted_on_as { (g : InvertsOn self.now store.old cells.now) → let s = store.old in let v = self.now in
+            InvertedOnAs s store.new g.form.S
+            (invert_on g.form.S g.form.xs (tree s.index.now s.words.now s.mark v.hypothesis) (tree s.index.now s.words.now s.mark v.judgment) v.context.now (made_of s))
+            sorts.old sorts.new result }
+        ensures memo_unchanged { (memo.new ≡ memo.old) × (ids.new ≡ ids.old) }
+    {
+        let Item::List(a, b) = items::nth(cells, 5) else {
+            return Err(Question::Cases);
+        };
+        let inner = &cells[a..b];
+        let reader = &self.source.reader;
+        read_cases(reader, inner)?;
+        let cases = Cases {
+            cells: inner,
+            many: items::count(inner),
+        };
+        let mut names = Variables {
+            taken: [0; VARIABLEWORDS],
+            sorts: [0; VARIABLES],
+            count: reader.n.vars,
+        };
+        taken_vars(
+            &self.source.facts(),
+            &store.terms(),
+            self.hypothesis,
+            self.judgment,
+            self.context,
+            &mut names.taken,
+        );
+        self.all_rules(store, &cases, &mut names, memo, ids)?;
+        sorts.copy_from_slice(&names.sorts);
+        Ok(names.count)
     }
 }
 
-// The form, whose items the cells hold. `map`, `memo`, `theta`, `pairs` and `ids` are scratch: zero before and after. The sets are empty before; afterwards
-// they are the fact's, where one is answered. The rows of made variables are in the table then.
-pub fn invert(
-    theory: &[u8],
-    goals: &[u8],
-    text: &[u8],
-    symbols: &[u32],
-    inputs: &[u32],
-    rules: &[u32],
-    rulevars: &[u32],
-    patterns: &[u32],
-    vars: &mut [u32],
-    defs: &[u32],
-    facts: &[u32],
-    footings: &[u64],
-    lists: &[u32],
-    n: Sizes,
-    index: &mut [u32],
-    words: &mut [u32],
-    mark: Mark,
-    cells: &[u32],
-    map: &mut [u32],
-    memo: &mut [u32],
-    theta: &mut [u32],
-    pairs: &mut [u32],
-    ids: &mut [u32],
-    hyps: &mut [u64],
-    footing: &mut [u64],
-) -> Inverted
-    requires invert_form { InvertForm (names theory.now goals.now text.now symbols.now inputs.now vars.old defs.now) (rule_lists theory.now rules.now rulevars.now patterns.now) facts.now footings.now lists.now n index.old words.old mark cells.now }
-    requires blank { Blank map.old memo.old hyps.old footing.old × (theta.old ≡ replicate VARIABLES 0) × (pairs.old ≡ replicate (2 * PAIRS) 0) × (ids.old ≡ replicate 40960 0) }
-    ensures inverted_as { (g : InvertForm (names theory.now goals.now text.now symbols.now inputs.now vars.old defs.now) (rule_lists theory.now rules.now rulevars.now patterns.now) facts.now footings.now lists.now n index.old words.old mark cells.now) →
-        InvertedAs goals.now text.now index.old words.old index.new words.new mark g.S (invert g.S g.xs (made index.old words.old mark)) hyps.new footing.new vars.old vars.new result }
-    ensures map_unchanged { (map.new ≡ map.old) × (memo.new ≡ memo.old) × (theta.new ≡ theta.old) × (pairs.new ≡ pairs.old) × (ids.new ≡ ids.old) }
+// The hypothesis that the form inverts, by the number of its fact, and those that the result rests on, as a set that is empty before.
+fn hypothesis(source: &Source<'_>, cells: &[u32], hyps: &mut [u64]) -> Result<usize, Question>
+    requires { NamesHypothesis source.now cells.now × (hyps.old ≡ replicate FACTWORDS 0) }
+    ensures { (g : NamesHypothesis source.now cells.now) → HypothesisAs g.S source.now.reader.n hyps.new (hypothesis_of g.S g.xs) result }
 {
     let at = items::place(cells, 2);
-    let Some(i) = index_in(text, &cells[at..]) else {
-        return Inverted::No(34, 0, mark);
+    let Some(i) = index_in(source.reader.text, &cells[at..]) else {
+        return Err(Question::Earlier);
     };
+    let n = source.reader.n;
     if !is_fact(n, i) {
-        return Inverted::No(34, 0, mark);
+        return Err(Question::Earlier);
     }
-    if !is_plain(facts, i) {
-        return Inverted::No(40, 0, mark);
+    if !is_plain(source.rows, i) {
+        return Err(Question::Hypothesis);
     }
     let third = items::place(cells, 3);
-    match any_hyps(text, facts, n, &cells[third..], hyps) {
-        Listed::Ok => {}
-        Listed::No(q) => {
-            return Inverted::No(q, 0, mark);
-        }
-    }
+    any_hyps(source.reader.text, source.rows, n, &cells[third..], hyps)?;
+    Ok(i)
+}
+
+// The form, whose items the cells hold. The sorts of variables that are made come into `sorts`, each at its number, and zero into the others; their rows
+// are for the caller to write (`put_made`). `memo` and `ids` are scratch: zero before and after.
+pub fn invert(
+    source: &Source<'_>,
+    rules: &Rules<'_>,
+    store: &mut Store<'_>,
+    cells: &[u32],
+    sorts: &mut [u32],
+    memo: &mut [u32],
+    ids: &mut [u32],
+) -> Result<Inverted, Question>
+    requires inverts_form { InvertsForm source.now rules.now store.old cells.now × (length sorts.old ≡ VARIABLES) }
+    requires empty { (memo.old ≡ replicate TERMS 0) × (ids.old ≡ replicate 40960 0) }
+    ensures same_tables { SameTables store.old store.new }
+    ensures inverted_as { (g : InvertsForm source.now rules.now store.old cells.now) →
+        InvertedAs store.old store.new g.S (invert g.S g.xs (made_of store.old)) sorts.old sorts.new result }
+    ensures memo_unchanged { (memo.new ≡ memo.old) × (ids.new ≡ ids.old) }
+{
+    let mut support = no_support();
+    let fact = hypothesis(source, cells, &mut support.hyps)?;
     let fourth = items::place(cells, 4);
-    match judgment(
-        theory,
-        goals,
-        text,
-        symbols,
-        inputs,
+    let judgment = source.reader.judgment(store, &cells[fourth..])?;
+    let mut list = [0u32; FACTS];
+    let many = write_out(&support.hyps, &mut list);
+    let inverting = Inverting {
+        source: *source,
+        rules: *rules,
+        hypothesis: judgment_of(source.rows, fact),
+        judgment,
+        context: &list[..many],
+    };
+    let vars = inverting.invert_on(store, cells, sorts, memo, ids)?;
+    insert(&mut support.hyps, fact);
+    Ok(Inverted {
+        derived: Derived {
+            judgment,
+            instances: 0,
+            support,
+        },
         vars,
-        defs,
-        n,
-        index,
-        words,
-        mark,
-        &cells[fourth..],
-    ) {
-        Out::Ok(j, m) => {
-            let s = judgment_of(facts, i);
-            match invert_on(
-                theory, goals, text, symbols, inputs, rules, rulevars, patterns, vars, defs, facts,
-                lists, n, index, words, m, cells, s, j, hyps, map, memo, theta, pairs, ids,
-            ) {
-                Out::Ok(k, new) => {
-                    insert(hyps, i);
-                    Inverted::Ok(j, k, new)
-                }
-                Out::No(q, d, new) => Inverted::No(q, d, new),
-            }
-        }
-        Out::No(q, d, m) => Inverted::No(q, d, m),
-    }
+    })
 }

@@ -3,4 +3,8 @@
 #![tactic(auto)]
 
 pub mod invert;
-mod invert_rules;
+mod inverting;
+mod judging;
+mod meeting;
+mod renaming;
+mod turning;

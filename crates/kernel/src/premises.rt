@@ -19,14 +19,11 @@ impl RuleReader<'_, '_> {
             Holds self.old.known.text.now cells.now zs →
             PartRead prefixes self.old self.new (judgments T zs R) result }
     {
-        let mut at = 0;
-        // an item says how many cells it has
-        while at < cells.len() {
-            let Item::List(a, b) = items::item_at(cells, at) else {
+        for item in items::all(cells) {
+            let Item::List(a, b) = items::item_at(item, 0) else {
                 return Err(Question::Declared);
             };
-            self.judgment(&cells[a..b])?;
-            at = b;
+            self.judgment(&item[a..b])?;
         }
         Ok(())
     }

@@ -1,8 +1,8 @@
 -- The line of an answer, without its end: a word, the numbers with a space before each, the bracket. Assumes nothing.
-use Rattle.std.specs.Prelude.{ℕ, ⊤, ◌<◌, ◌^◌, ◌≡◌, List, [], ◌∷◌, ◌++◌}
+use Rattle.std.specs.Prelude.{ℕ, ⊤, ◌<◌, ◌^◌, ◌≡◌, List, [], ◌∷◌, ◌++◌, Result, Ok, Err}
 use Rattle.std.specs.Fmt.{decimal}
-use Rattle.running.specs.declared.finish.Answer.{Answer}
-use Rattle.running.specs.declared.finish.Answer.TheVariants as answered
+use Rattle.running.specs.declared.finish.Report.{Report}
+use Rattle.running.specs.declared.finish.Refusal.{Refusal}
 use Rattle.printing.specs.Written.{Decimal, decimal_written}
 use mathlib.Core.Path.{refl}
 
@@ -14,20 +14,20 @@ abbrev pub refused : List ℕ
 refused = 40 ∷ 114 ∷ 101 ∷ 102 ∷ 117 ∷ 115 ∷ 101 ∷ 100 ∷ []
 
 -- the word and the numbers of an answer
-abbrev pub word : Answer → List ℕ
-word (answered.Accepted r) = accepted
-word (answered.Refused r) = refused
+abbrev pub word : Result Report Refusal → List ℕ
+word (Ok r) = accepted
+word (Err r) = refused
 
-abbrev pub numbers : Answer → List ℕ
-numbers (answered.Accepted r) = r.steps ∷ r.goals ∷ r.open_goals ∷ r.hypotheses ∷ r.inductions ∷ r.inversions ∷ r.instances ∷ []
-numbers (answered.Refused r) = r.number ∷ r.text ∷ r.form ∷ r.detail ∷ []
+abbrev pub numbers : Result Report Refusal → List ℕ
+numbers (Ok r) = r.steps ∷ r.goals ∷ r.open_goals ∷ r.hypotheses ∷ r.inductions ∷ r.inversions ∷ r.instances ∷ []
+numbers (Err r) = r.number ∷ r.text ∷ r.form ∷ r.detail ∷ []
 
 abbrev pub fields : List ℕ → List ℕ
 fields [] = 41 ∷ []
 fields (n ∷ ns) = 32 ∷ (decimal n ++ fields ns)
 
 -- what is printed
-abbrev pub line_text : Answer → List ℕ
+abbrev pub line_text : Result Report Refusal → List ℕ
 line_text a = word a ++ fields (numbers a)
 
 -- a space and a number's digits, for each of them, and the bracket
@@ -41,7 +41,7 @@ Small [] = ⊤
 Small (n ∷ ns) = (n < 2 ^ 64) × Small ns
 
 -- the text is the line
-abbrev pub Line : Answer → List ℕ → Type 0
+abbrev pub Line : Result Report Refusal → List ℕ → Type 0
 Line a text = (rest : List ℕ) × Fields (numbers a) rest × (text ≡ word a ++ rest)
 
 fields_are : (ns : List ℕ) → Small ns → Fields ns (fields ns)
@@ -49,5 +49,5 @@ fields_are [] h = refl
 fields_are (n ∷ ns) h = (decimal n, fields ns, decimal_written n h.0, fields_are ns h.1, refl)
 
 -- what is printed is the line
-pub line_is : (a : Answer) → Small (numbers a) → Line a (line_text a)
+pub line_is : (a : Result Report Refusal) → Small (numbers a) → Line a (line_text a)
 line_is a h = (fields (numbers a), fields_are (numbers a) h, refl)

@@ -1,13 +1,13 @@
 // A finished check, lent to be read: its texts, its answer and its tables, each as the rows that docs/TABLES.md has. A row that is not there, and a place
 // outside of a text, are read as none.
-use running::finish::Answer;
+use running::finish::{Refusal, Report};
 
 #[derive(Clone, Copy)]
 pub struct Checked<'a> {
     pub theory: &'a [u8],
     pub goals: &'a [u8],
     pub proof: &'a [u8],
-    pub answer: Answer,
+    pub answer: Result<Report, Refusal>,
     pub symbols: &'a [[u32; 4]],
     pub rules: &'a [[u32; 6]],
     pub vars: &'a [[u32; 4]],

@@ -2,18 +2,18 @@
 ghost use Rattle.std.specs.Prelude.{Some};
 ghost use Rattle.printing.specs.Lines.{line_text};
 
-use running::finish::Answer;
+use running::finish::{Refusal, Report};
 use std::fmt;
 
 #[derive(Clone, Copy)]
-pub struct Line(pub Answer);
+pub struct Line(pub Result<Report, Refusal>);
 
 impl fmt::Display for Line {
     ghost output = { λ l. Some (line_text l.0) };
 
     fn fmt<W: fmt::Write>(&self, f: &mut fmt::Formatter<W>) -> fmt::Result {
         match self.0 {
-            Answer::Accepted(r) => write!(
+            Ok(r) => write!(
                 f,
                 "(accepted {} {} {} {} {} {} {})",
                 r.steps,
@@ -24,7 +24,7 @@ impl fmt::Display for Line {
                 r.inversions,
                 r.instances
             ),
-            Answer::Refused(r) => write!(
+            Err(r) => write!(
                 f,
                 "(refused {} {} {} {})",
                 r.number, r.text, r.form, r.detail

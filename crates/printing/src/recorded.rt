@@ -4,15 +4,14 @@ ghost use Rattle.rules.specs.Limits.{FACTS};
 
 use crate::checked::Checked;
 use rules::FACTS;
-use running::finish::Answer;
 
 impl Checked<'_> {
     pub fn recorded(&self) -> usize
         ensures { result ≤ FACTS }
     {
         let facts = match self.answer {
-            Answer::Accepted(r) => r.steps,
-            Answer::Refused(r) if r.text == 3 => {
+            Ok(r) => r.steps,
+            Err(r) if r.text == 3 => {
                 let vars = self.vars.iter().filter(|row| row[1] == 3).count();
                 let defs = self.defs.iter().filter(|row| row[1] != 0).count();
                 let taken = self.rows.iter().filter(|row| row[5] == 1).count();
@@ -21,7 +20,7 @@ impl Checked<'_> {
                     .saturating_sub(defs)
                     .saturating_sub(taken)
             }
-            Answer::Refused(_) => 0,
+            Err(_) => 0,
         };
         facts.min(FACTS)
     }

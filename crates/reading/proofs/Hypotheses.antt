@@ -32,7 +32,7 @@ use Rattle.state.specs.RowTables.{tabled_long}
 use Rattle.state.specs.FactLaws.{facts_tabled, fact_row_lem}
 use Rattle.reading.specs.Items.{FirstItem, index_in, index_found}
 use Rattle.reading.specs.Given.{FactsItem, FactsItems}
-use Rattle.reading.specs.Answers.{tests, HypsRead, HypsAs}
+use Rattle.reading.specs.Answers.{HypsRead, HypsAs}
 use Rattle.questions.specs.declared.Question.{Question}
 use Rattle.reading.proofs.Filling.{cleared}
 use Rattle.reading.specs.Laws.Walks.{Here, here, go_on, then_same}
@@ -111,6 +111,19 @@ hyping_start p S {xs} h e =
       below = empty;
     }
 
+-- some items are left
+pub record Walking (text cells : List ℕ) (at : ℕ) : Type 0 where
+  pub left : Sexps
+  pub walk : Walk text cells at left
+
+module _ {text cells : List ℕ} {at : ℕ} (w : Walking text cells at) (l : at < length cells) where
+  -- what `index` asks
+  pub walking_first : FirstItem text (take (length cells - at) (drop at cells))
+  walking_first = let k = here w.walk l in record { x = k.x; ys = k.ys; holds = k.holds }
+
+  pub walking_on : {next : ℕ} → next ≡ behind at (item_at cells at) → Walking text cells next
+  walking_on n = let k = here w.walk l in record { left = k.ys; walk = (go_on k n).walk }
+
 -- what `index` answers of the item at a place
 abbrev pub Spelled : List ℕ → List ℕ → ℕ → Option ℕ → Type 0
 Spelled text cells at r = (x : Sexp) (ys : Sexps) → Holds text (take (length cells - at) (drop at cells)) (cons x ys) → r ≡ (index_in x)
@@ -132,10 +145,6 @@ module _ {p : Fact → Bool} {S : State} {xs : Sexps} {text cells set : List ℕ
     -- the item that is read now
     pub hyping_here : Here text cells at h.left
     hyping_here = here h.walk l
-
-    -- what `index` asks
-    pub hyping_first : FirstItem text (take (length cells - at) (drop at cells))
-    hyping_first = let k = hyping_here in record { x = k.x; ys = k.ys; holds = k.holds }
 
     stops : (q : ℕ) → ((M : Made) → hyp_each p S (cons hyping_here.x hyping_here.ys) M ≡ refuse q 0 M) → (M : Made) → hyp_list p S (list xs) M ≡ refuse q 0 M
     stops q e M =
@@ -179,11 +188,11 @@ module _ {p : Fact → Bool} {S : State} {xs : Sexps} {text cells set : List ℕ
 
 -- What the tables say --------------------------------------------------------------------------------------------------------------------
 
--- the fact passes, as `passes` answers
-pub record Passing (plain : Bool) (S : State) (facts : List ℕ) (i : ℕ) : Type 0 where
+-- fact i is there
+pub record Stands (S : State) (i : ℕ) : Type 0 where
   pub fact : Fact
   pub is : entry S.facts i ≡ some fact
-  pub test : elim plain [ true ↦ plain_row facts i | false ↦ not (eqb (cell 6 facts i 1) 0) ] ≡ tests plain fact
+  pub early : i < length S.facts
 
 module _ {text facts cells : List ℕ} {n : Sizes} (g : FactsItems text facts n cells) where
   pub facts_long : length facts ≡ 6 * FACTS
@@ -195,15 +204,13 @@ module _ {text facts cells : List ℕ} {n : Sizes} (g : FactsItems text facts n 
   pub facts_many : n.facts ≡ length g.S.facts
   facts_many = g.recorded.many
 
-  pub passing : (plain : Bool) (i : ℕ) → i < n.facts → Passing plain g.S facts i
-  unfolding tests
-  passing true i l = let r = fact_row_lem g.recorded i l in record { fact = _; is = r.is; test = r.plain }
-  passing false i l = let r = fact_row_lem g.recorded i l in record { fact = _; is = r.is; test = r.assumed }
+  pub stands : (i : ℕ) → i < n.facts → Stands g.S i
+  stands i l = record { fact = _; is = (fact_row_lem g.recorded i l).is; early = omega (arith, facts_many) }
 
 -- A list among items -----------------------------------------------------------------------------------------------------------------------
 
 module _ {text facts cells : List ℕ} {n : Sizes} (g : FactsItem text facts n cells) {a b : ℕ} (l : ListIs text cells g.x a b) where
-  pub facts_inside : FactsItems text facts n (take (b - a) (drop a cells))
+  abbrev pub facts_inside : FactsItems text facts n (take (b - a) (drop a cells))
   facts_inside =
       record {
         S = g.S;
@@ -215,15 +222,12 @@ module _ {text facts cells : List ℕ} {n : Sizes} (g : FactsItem text facts n c
         holds = l.holds;
       }
 
-  pub hyps_inside : (p : Fact → Bool) (before set : List ℕ) (r : Result (Unit {0}) Question) →
-      ((k : FactsItems text facts n (take (b - a) (drop a cells))) → HypsAs p k.S (list k.xs) before set r) → HypsAs p g.S g.x before set r
-  unfolding facts_inside
-  hyps_inside p before set r h = subst (λ (z : Sexp). HypsAs p g.S z before set r) (sym l.is) (h facts_inside)
+  hyps_inside : (p : Fact → Bool) (before set : List ℕ) (r : Result (Unit {0}) Question) → HypsAs p g.S (list l.items) before set r → HypsAs p g.S g.x before set r
+  hyps_inside p before set r h = subst (λ (z : Sexp). HypsAs p g.S z before set r) (sym l.is) h
 
 -- A list that is read, or that is refused: then the set, which was empty before, is cleared
 module _ {text facts cells : List ℕ} {n : Sizes} (g : FactsItem text facts n cells) {a b : ℕ} (l : ListIs text cells g.x a b) (p : Fact → Bool)
-    (set : List ℕ) (r : Result (Unit {0}) Question)
-    (h : (k : FactsItems text facts n (take (b - a) (drop a cells))) → HypsAs p k.S (list k.xs) set set r) where
+    (set : List ℕ) (r : Result (Unit {0}) Question) (h : HypsAs p g.S (list l.items) set set r) where
   pub hyps_ok : (before : List ℕ) → r ≡ Ok tt → HypsAs p g.S g.x before set (Ok tt)
   hyps_ok before e = subst (λ z. HypsAs p g.S g.x set set z) e (hyps_inside g l p set set r h)
 
@@ -233,20 +237,14 @@ module _ {text facts cells : List ℕ} {n : Sizes} (g : FactsItem text facts n c
       let k = subst (λ z. HypsAs p g.S g.x set set z) e (hyps_inside g l p set set r h) in
       (k.0, (cleared set o (s ∙ ap length o ∙ length-replicate {A = ℕ} FACTWORDS 0) c, k.1.1))
 
--- by the name of the test
-module _ (S : State) (x : Sexp) (before set : List ℕ) (r : Result (Unit {0}) Question) where
-  pub test_plain : HypsAs (tests true) S x before set r → HypsAs is_plain S x before set r
-  unfolding tests
-  test_plain h = h
+-- The tests -------------------------------------------------------------------------------------------------------------------------------
 
-  pub test_any : HypsAs (tests false) S x before set r → HypsAs (λ f. f.assumed) S x before set r
-  unfolding tests
-  test_any h = h
+same_fact : {a b : Fact} {o : Option Fact} → o ≡ some a → o ≡ some b → a ≡ b
+same_fact {a} {b} e f = let g : some a ≡ some b = sym e ∙ f in cc
 
-pub chosen_yes : (p a b r : Bool) → p ≡ true → r ≡ a → r ≡ elim p [ true ↦ a | false ↦ b ]
-chosen_yes true a b r e f = f
-chosen_yes false a b r e f = absurd (false≢true e)
+module _ {text facts cells : List ℕ} {n : Sizes} (g : FactsItem text facts n cells) {i : ℕ} (l : i < length g.S.facts) {f : Fact} (e : entry g.S.facts i ≡ some f) where
+  pub plain_tested : plain_row facts i ≡ is_plain f
+  plain_tested = let r = fact_row_lem g.recorded i (omega (arith, g.recorded.many)) in r.plain ∙ ap is_plain (same_fact r.is e)
 
-pub chosen_no : (p a b r : Bool) → p ≡ false → r ≡ b → r ≡ elim p [ true ↦ a | false ↦ b ]
-chosen_no true a b r e f = absurd (true≢false e)
-chosen_no false a b r e f = f
+  pub any_tested : not (eqb (cell 6 facts i 1) 0) ≡ f.assumed
+  any_tested = let r = fact_row_lem g.recorded i (omega (arith, g.recorded.many)) in r.assumed ∙ ap (λ (h : Fact). h.assumed) (same_fact r.is e)

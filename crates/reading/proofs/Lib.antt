@@ -12,5 +12,4 @@ pub mod TermHeads
 pub mod TermBehind
 pub mod TermItems
 pub mod TermSorted
-pub mod Numbered
 pub mod Missing

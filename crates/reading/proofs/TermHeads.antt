@@ -1,5 +1,5 @@
 -- The symbol that a list begins with: what the definition makes of the items, from what was found of the first. Assumes nothing.
-use mathlib.Core.Path.{◌≡◌, refl, ap, ◌∙◌}
+use mathlib.Core.Path.{◌≡◌, refl, sym, ap, ◌∙◌}
 use mathlib.Core.Bool.{Bool}
 use Rattle.std.specs.Prelude.{Option, Some as some, None as nothing}
 use mathlib.Core.List.{List}
@@ -9,7 +9,6 @@ use lib.Dec.{leb}
 use lib.ListN.{length, take, drop, length-drop}
 use lib.Seq.{length-take-le}
 use borrow.Author.Tests.{le-leb}
-use Rattle.rules.specs.Lex.{letters}
 use Rattle.rules.specs.Out.{Out, refuse, then, ask, found}
 use Rattle.rules.specs.Sexp.{Sexps, atom, list, nil, cons, count, item, rest, name, items}
 use Rattle.rules.specs.Tree.{Tree}
@@ -18,12 +17,8 @@ use Rattle.rules.specs.Theory.{Theory, no_symbol, constructor_named, predicate_n
 use Rattle.rules.specs.Laws.Find.{first_some}
 use Rattle.rules.specs.State.{State}
 use Rattle.rules.specs.Read.{term, compound, terms, judgment}
-use Rattle.sexp.specs.Items.{item_at}
-use Rattle.sexp.specs.AtomText.{atom_part}
-use Rattle.sexp.specs.FirstItem.{AtomFirst, atom_first, list_first, none_left, first_item, first_count}
-use Rattle.sexp.specs.FoundLaws.{found_at, found_missing}
-use Rattle.sexp.specs.declared.items.Item.{Item}
-use Rattle.sexp.specs.declared.items.Item.TheVariants.{Atom, List as Part}
+use Rattle.sexp.specs.Each.{NameFirst, name_first}
+use Rattle.sexp.specs.FirstItem.{none_left, first_item, first_count}
 use Rattle.kernel.specs.Held.{SymbolsHeld}
 use Rattle.kernel.specs.Readers.{NamedSymbols}
 use Rattle.reading.specs.Heads.{Opens, Opened, finish}
@@ -105,6 +100,17 @@ module _ (S : State) (M : Made) (zs : Sexps) where
     unfolding then
     judgment_is f = judgment_named ∙ ap (λ (o : Option ℕ). then (found 22 o M) (λ c u. then (terms S ys u) (finish S c))) f
 
+-- a list, or nothing, in front
+compound_unnamed : (S : State) (M : Made) (zs : Sexps) {ys : Sexps} → item zs 0 ≡ list ys → compound S zs M ≡ refuse 22 0 M
+unfolding item
+compound_unnamed S M nil e = compound_none S M nil refl
+compound_unnamed S M (cons x xs) e = compound_list S M (cons x xs) (ap (λ z. cons z xs) e)
+
+judgment_unnamed : (S : State) (M : Made) (zs : Sexps) {ys : Sexps} → item zs 0 ≡ list ys → judgment S (list zs) M ≡ refuse 22 0 M
+unfolding item
+judgment_unnamed S M nil e = judgment_none S M nil refl
+judgment_unnamed S M (cons x xs) e = judgment_list S M (cons x xs) (ap (λ z. cons z xs) e)
+
 -- The name -------------------------------------------------------------------------------------------------------------------------
 
 constructor_inside : (T : Theory) (bs : List ℕ) (c : ℕ) → constructor_named T bs ≡ some c → c < length T.symbols
@@ -122,7 +128,7 @@ rest_long cells = length-take-le (length cells - 1) (drop 1 cells) (omega (arith
 pub rest_fewer : (cells : List ℕ) → 0 < length cells → length (take (length cells - 1) (drop 1 cells)) < length cells
 rest_fewer cells l = omega (arith, rest_long cells, l)
 
-module _ {text cells : List ℕ} {zs : Sexps} {p : ℕ} (f : AtomFirst text cells zs p) where
+module _ {text cells : List ℕ} {zs : Sexps} {p : ℕ} {bs : List ℕ} (f : NameFirst text cells zs p bs) where
   alone : length cells ≡ 1 → f.others ≡ nil
   alone e = none_left f.rest (omega (arith, rest_long cells, e))
 
@@ -134,65 +140,51 @@ module _ {theory text symbols : List ℕ} {known : ℕ} {cells : List ℕ} (g : 
   pub symbols_named : NamedSymbols theory symbols known
   symbols_named = (g.ins, (g.S.theory.symbols, g.held))
 
-  pub compound_empty : length cells ≡ 0 → (M : Made) → compound g.S g.xs M ≡ refuse 22 0 M
-  compound_empty e M = compound_none g.S M g.xs (none_left g.holds e)
+  -- no name in front
+  pub compound_nameless : {ys : Sexps} → item g.xs 0 ≡ list ys → (M : Made) → compound g.S g.xs M ≡ refuse 22 0 M
+  compound_nameless e M = compound_unnamed g.S M g.xs e
 
-  pub judgment_empty : length cells ≡ 0 → (M : Made) → judgment g.S (list g.xs) M ≡ refuse 22 0 M
-  judgment_empty e M = judgment_none g.S M g.xs (none_left g.holds e)
+  pub judgment_nameless : {ys : Sexps} → item g.xs 0 ≡ list ys → (M : Made) → judgment g.S (list g.xs) M ≡ refuse 22 0 M
+  judgment_nameless e M = judgment_unnamed g.S M g.xs e
 
-  module _ (l : length cells ≡ 0 → ⊥) {item : Item} (e : item ≡ item_at cells 0) where
-    pub compound_nested : {a b : ℕ} → item ≡ Part a b → (M : Made) → compound g.S g.xs M ≡ refuse 22 0 M
-    compound_nested f M = compound_list g.S M g.xs (list_first g.holds l e f).is
+  module _ {p : ℕ} {bs : List ℕ} (e : item g.xs 0 ≡ atom p bs) where
+    first : NameFirst text cells g.xs p bs
+    first = name_first g.xs g.holds e
 
-    pub judgment_nested : {a b : ℕ} → item ≡ Part a b → (M : Made) → judgment g.S (list g.xs) M ≡ refuse 22 0 M
-    judgment_nested f M = judgment_list g.S M g.xs (list_first g.holds l e f).is
+    -- a constructor's name
+    module _ {q : Option ℕ} (a : (T : Theory) (ins : List ℕ) → SymbolsHeld theory symbols ins known T.symbols → q ≡ constructor_named T bs) where
+      pub compound_missing : q ≡ nothing → (M : Made) → compound g.S g.xs M ≡ refuse 22 0 M
+      compound_missing w M = compound_unknown g.S M g.xs first.is (sym (a g.S.theory g.ins g.held) ∙ w)
 
-    module _ {p : ℕ} (f : item ≡ Atom p) where
-      pub head : AtomFirst text cells g.xs p
-      head = atom_first g.holds l e f
+      module _ {c : ℕ} (w : q ≡ some c) where
+        known_as : constructor_named g.S.theory bs ≡ some c
+        known_as = sym (a g.S.theory g.ins g.held) ∙ w
 
-      module _ {end : ℕ} (d : end ≡ p + length (letters (drop p text))) where
-        name_is : take (end - p) (drop p text) ≡ letters (drop p text)
-        name_is = atom_part text p end head.inside d
+        pub compound_single : length cells ≡ 1 → (M : Made) → compound g.S g.xs M ≡ refuse 23 0 M
+        compound_single o M = compound_alone g.S M g.xs first.is known_as (alone first o)
 
-        -- a constructor's name
-        module _ {q : Option ℕ} (a : (T : Theory) (ins : List ℕ) → SymbolsHeld theory symbols ins known T.symbols →
-            q ≡ (constructor_named T (take (end - p) (drop p text)))) where
-          constructor_so : q ≡ (constructor_named g.S.theory (letters (drop p text)))
-          constructor_so = a g.S.theory g.ins g.held ∙ ap (λ (bs : List ℕ). (constructor_named g.S.theory bs)) name_is
+        pub compound_opened : (length cells ≡ 1 → ⊥) → Opened text cells known g.S (compound g.S g.xs) c
+        compound_opened o =
+            record {
+              others = first.others;
+              rest = first.rest;
+              some = first.some;
+              known = omega (arith, constructor_inside g.S.theory bs c known_as, g.held.many);
+              is = λ M. compound_is g.S M g.xs first.is known_as (some_others first o);
+            }
 
-          pub compound_missing : q ≡ nothing → (M : Made) → compound g.S g.xs M ≡ refuse 22 0 M
-          compound_missing w M = compound_unknown g.S M g.xs head.is (found_missing _ q constructor_so w)
+    -- a predicate's
+    module _ {q : Option ℕ} (a : (T : Theory) (ins : List ℕ) → SymbolsHeld theory symbols ins known T.symbols → q ≡ predicate_named T bs) where
+      pub judgment_missing : q ≡ nothing → (M : Made) → judgment g.S (list g.xs) M ≡ refuse 22 0 M
+      judgment_missing w M = judgment_unknown g.S M g.xs first.is (sym (a g.S.theory g.ins g.held) ∙ w)
 
-          module _ {c : ℕ} (w : q ≡ some c) where
-            pub compound_single : length cells ≡ 1 → (M : Made) → compound g.S g.xs M ≡ refuse 23 0 M
-            compound_single o M = compound_alone g.S M g.xs head.is (found_at _ q _ constructor_so w) (alone head o)
-
-            pub compound_opened : (length cells ≡ 1 → ⊥) → Opened text cells known g.S (compound g.S g.xs) c
-            compound_opened o =
-                record {
-                  others = head.others;
-                  rest = head.rest;
-                  some = head.some;
-                  known = omega (arith, constructor_inside g.S.theory (letters (drop p text)) c (found_at _ q _ constructor_so w), g.held.many);
-                  is = λ M. compound_is g.S M g.xs head.is (found_at _ q _ constructor_so w) (some_others head o);
-                }
-
-        -- a predicate's
-        module _ {q : Option ℕ} (a : (T : Theory) (ins : List ℕ) → SymbolsHeld theory symbols ins known T.symbols →
-            q ≡ (predicate_named T (take (end - p) (drop p text)))) where
-          predicate_so : q ≡ (predicate_named g.S.theory (letters (drop p text)))
-          predicate_so = a g.S.theory g.ins g.held ∙ ap (λ (bs : List ℕ). (predicate_named g.S.theory bs)) name_is
-
-          pub judgment_missing : q ≡ nothing → (M : Made) → judgment g.S (list g.xs) M ≡ refuse 22 0 M
-          judgment_missing w M = judgment_unknown g.S M g.xs head.is (found_missing _ q predicate_so w)
-
-          pub judgment_opened : {c : ℕ} → q ≡ some c → Opened text cells known g.S (judgment g.S (list g.xs)) c
-          judgment_opened {c} w =
-              record {
-                others = head.others;
-                rest = head.rest;
-                some = head.some;
-                known = omega (arith, predicate_inside g.S.theory (letters (drop p text)) c (found_at _ q _ predicate_so w), g.held.many);
-                is = λ M. judgment_is g.S M g.xs head.is (found_at _ q _ predicate_so w);
-              }
+      pub judgment_opened : {c : ℕ} → q ≡ some c → Opened text cells known g.S (judgment g.S (list g.xs)) c
+      judgment_opened {c} w =
+          let named : predicate_named g.S.theory bs ≡ some c = sym (a g.S.theory g.ins g.held) ∙ w in
+          record {
+            others = first.others;
+            rest = first.rest;
+            some = first.some;
+            known = omega (arith, predicate_inside g.S.theory bs c named, g.held.many);
+            is = λ M. judgment_is g.S M g.xs first.is named;
+          }

@@ -9,7 +9,7 @@ use Rattle.rules.specs.Tree.{Tree, Trees, app, count_trees}
 use Rattle.rules.specs.Store.{Made}
 use Rattle.rules.specs.Unify.{Binding}
 use Rattle.rules.specs.Theory.{inputs}
-use Rattle.rules.specs.State.{State, Var, Fact, sort_of, fit, is_plain}
+use Rattle.rules.specs.State.{State, Var, Fact, sort_of, fit}
 use Rattle.rules.specs.Reference.{hyp_list}
 use Rattle.rules.specs.TheoryTables.{filled}
 use Rattle.rules.specs.StateTables.{numbers}
@@ -94,11 +94,6 @@ pub record VarsRead (vs : List Var) (x : Sexp) (cells : List ℕ) (many : ℕ) :
 abbrev pub VarsAs : List Var → Sexp → List ℕ → List ℕ → Option ℕ → Type 0
 VarsAs vs x before cells (some many) = VarsRead vs x cells many
 VarsAs vs x before cells nothing = (vars_in vs x ≡ nothing) × (cells ≡ before)
-
--- the test of a list of hypotheses: plain ones, or any
-unfoldable pub tests : Bool → Fact → Bool
-tests true f = is_plain f
-tests false f = f.assumed
 
 -- the facts that an item lists, each passing the test, are the set's
 pub record HypsRead (p : Fact → Bool) (S : State) (x : Sexp) (set : List ℕ) : Type 0 where

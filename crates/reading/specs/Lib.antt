@@ -4,4 +4,4 @@ pub mod Answers
 pub mod Heads
 pub mod Laws
 pub mod Reader
-pub mod Apart
+pub mod Tested

@@ -1,11 +1,11 @@
 // Lists of hypotheses: indices of earlier facts that pass the test of question 40, as a set.
-ghost use Rattle.std.specs.Prelude.{◌≡◌, true, false, not, ◌*◌, ◌<◌, eqb, length, replicate};
-ghost use Rattle.rules.specs.Limits.{FACTS, FACTWORDS};
+ghost use Rattle.std.specs.Prelude.{◌≡◌, Bool, replicate};
+ghost use Rattle.rules.specs.Limits.{FACTWORDS};
 ghost use Rattle.rules.specs.Sexp.{list};
-ghost use Rattle.rules.specs.State.{is_plain};
-ghost use Rattle.state.specs.Rows.{cell, plain_row};
+ghost use Rattle.rules.specs.State.{Fact, is_plain};
 ghost use Rattle.reading.specs.Given.{FactsItem, FactsItems};
-ghost use Rattle.reading.specs.Answers.{HypsAs, tests};
+ghost use Rattle.reading.specs.Answers.{HypsAs};
+ghost use Rattle.reading.specs.Tested.{Asks, Tests};
 
 use crate::names::index;
 use cells::clear;
@@ -16,37 +16,26 @@ use state::facts::{is_assumed, is_fact, is_plain};
 use state::sizes::Sizes;
 use terms::sets::insert;
 
-// Whether fact i passes: it is a plain hypothesis, or a hypothesis.
-fn passes(facts: &[u32], i: usize, plain: bool) -> bool
-    requires { (length facts.now ≡ 6 * FACTS) × (i < FACTS) }
-    ensures { result ≡ elim plain [ true ↦ plain_row facts.now i | false ↦ not (eqb (cell 6 facts.now i 1) 0) ] }
-{
-    if plain {
-        is_plain(facts, i)
-    } else {
-        is_assumed(facts, i)
-    }
-}
-
-// The facts whose numbers the items spell come into the set, which is empty before: plain hypotheses, or any.
-fn hyp_each(
+// The facts whose numbers the items spell come into the set, which is empty before: each passes the test.
+fn hyp_each<F: Fn(&[u32], usize) -> bool>(
     text: &[u8],
     facts: &[u32],
     n: Sizes,
     cells: &[u32],
-    plain: bool,
+    passes: F,
     set: &mut [u64],
 ) -> Result<(), Question>
-    requires { FactsItems text.now facts.now n cells.now × (set.old ≡ replicate FACTWORDS 0) }
-    ensures { (g : FactsItems text.now facts.now n cells.now) →
-        HypsAs (tests plain) g.S (list g.xs) set.new set.new result }
+    requires items { FactsItems text.now facts.now n cells.now × (set.old ≡ replicate FACTWORDS 0) }
+    requires callable { Asks F.Fn passes facts.now }
+    ensures { (g : FactsItems text.now facts.now n cells.now) (p : Fact → Bool) → Tests F.Fn passes facts.now g.S p →
+        HypsAs p g.S (list g.xs) set.new set.new result }
 {
     for item in items::all(cells) {
         let i = index(text, item).ok_or(Question::Earlier)?;
         if !is_fact(n, i) {
             return Err(Question::Earlier);
         }
-        if !passes(facts, i, plain) {
+        if !passes(facts, i) {
             return Err(Question::Hypothesis);
         }
         insert(set, i);
@@ -55,22 +44,23 @@ fn hyp_each(
 }
 
 // The same of the facts that the first item lists; where it is refused, the set is empty again.
-fn hyp_list(
+fn hyp_list<F: Fn(&[u32], usize) -> bool>(
     text: &[u8],
     facts: &[u32],
     n: Sizes,
     cells: &[u32],
-    plain: bool,
+    passes: F,
     set: &mut [u64],
 ) -> Result<(), Question>
-    requires { FactsItem text.now facts.now n cells.now × (set.old ≡ replicate FACTWORDS 0) }
-    ensures { (g : FactsItem text.now facts.now n cells.now) →
-        HypsAs (tests plain) g.S g.x set.old set.new result }
+    requires item { FactsItem text.now facts.now n cells.now × (set.old ≡ replicate FACTWORDS 0) }
+    requires callable { Asks F.Fn passes facts.now }
+    ensures { (g : FactsItem text.now facts.now n cells.now) (p : Fact → Bool) → Tests F.Fn passes facts.now g.S p →
+        HypsAs p g.S g.x set.old set.new result }
 {
     let Item::List(a, b) = items::item_at(cells, 0) else {
         return Err(Question::Earlier);
     };
-    match hyp_each(text, facts, n, &cells[a..b], plain, set) {
+    match hyp_each(text, facts, n, &cells[a..b], passes, set) {
         Ok(()) => Ok(()),
         Err(question) => {
             clear(set);
@@ -91,7 +81,7 @@ pub fn plain_hyps(
     ensures { (g : FactsItem text.now facts.now n cells.now) →
         HypsAs is_plain g.S g.x set.old set.new result }
 {
-    hyp_list(text, facts, n, cells, true, set)
+    hyp_list(text, facts, n, cells, is_plain, set)
 }
 
 // Any hypotheses.
@@ -106,5 +96,5 @@ pub fn any_hyps(
     ensures { (g : FactsItem text.now facts.now n cells.now) →
         HypsAs (λ f. f.assumed) g.S g.x set.old set.new result }
 {
-    hyp_list(text, facts, n, cells, false, set)
+    hyp_list(text, facts, n, cells, is_assumed, set)
 }

@@ -3,7 +3,6 @@
 // A function that reads one item reads the first of the cells that it gets, so that the rest of a list goes on as a part of its cells.
 #![tactic(auto)]
 
-pub mod apart;
 pub mod bindings;
 pub mod hyps;
 pub mod lists;

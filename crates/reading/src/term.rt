@@ -173,14 +173,9 @@ impl Reader<'_> {
         ensures { (g : Opens self.now.theory.now self.now.text.now self.now.symbols.now self.now.n.symbols cells.now) →
             OpenedAs self.now.text.now cells.now self.now.n.symbols g.S (compound g.S g.xs) result }
     {
-        if cells.len() == 0 {
-            return Err(Question::Spelling);
-        }
-        let Item::Atom(start) = items::item_at(cells, 0) else {
+        let Some(name) = items::head(self.text, cells) else {
             return Err(Question::Spelling);
         };
-        let end = lex::atom_end(self.text, start);
-        let name = &self.text[start..end];
         let Some(c) = constructor_named(self.theory, self.symbols, self.n.symbols, name) else {
             return Err(Question::Spelling);
         };
@@ -196,14 +191,9 @@ impl Reader<'_> {
         ensures { (g : Opens self.now.theory.now self.now.text.now self.now.symbols.now self.now.n.symbols cells.now) →
             OpenedAs self.now.text.now cells.now self.now.n.symbols g.S (judgment g.S (list g.xs)) result }
     {
-        if cells.len() == 0 {
-            return Err(Question::Spelling);
-        }
-        let Item::Atom(start) = items::item_at(cells, 0) else {
+        let Some(name) = items::head(self.text, cells) else {
             return Err(Question::Spelling);
         };
-        let end = lex::atom_end(self.text, start);
-        let name = &self.text[start..end];
         let Some(p) = predicate_named(self.theory, self.symbols, self.n.symbols, name) else {
             return Err(Question::Spelling);
         };

@@ -1,4 +1,5 @@
 pub mod Joins
+pub mod Parts
 pub mod Referring
 pub mod Replacing
 pub mod ScopeCells

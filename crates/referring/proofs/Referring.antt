@@ -153,9 +153,6 @@ module _ {K : Names} {facts : List ℕ} {n : Sizes} {I W : List ℕ} {m : Mark} 
     pub instance_first : FirstItem K.text cells
     instance_first = let f = first_item (item_at cells 0) g.holds l refl in record { x = f.x; ys = f.ys; holds = holds_first f g.holds }
 
-    pub instance_cell : 0 < length cells
-    instance_cell = omega (arith, l)
-
     -- the bindings are behind it
     module _ {next : ℕ} (e : next ≡ behind 0 (item_at cells 0)) where
       first : ItemFirst K.text cells g.xs (item_at cells 0) next

@@ -2,7 +2,7 @@
 use mathlib.Core.Path.{◌≡◌, refl, sym, ap, ◌∙◌}
 use mathlib.Core.Bool.{Bool, true, false, ◌||◌}
 use mathlib.Core.List.{List, [], ◌∷◌}
-use Prim.Native.Nat.{ℕ, zero, suc, ◌+◌, ◌-◌, ◌<◌, ◌≤◌}
+use Prim.Native.Nat.{ℕ, ◌+◌, ◌-◌, ◌<◌, ◌≤◌}
 use native.Mathlib.Omega.{arith}
 use native.Mathlib.Numerals.{add-one}
 use lib.Dec.{eqb}
@@ -72,24 +72,8 @@ pub record Visiting (I W : List ℕ) (m : Mark) (cells seen₀ set₀ seen set :
   pub wide : length seen ≡ length seen₀
   pub broad : length set ≡ length set₀
 
-pub visiting_start : {I W : List ℕ} {m : Mark} {cells seen set : List ℕ} → Seen I W m (holds seen) (holds set) → Visiting I W m cells seen set seen set 0
-visiting_start s = record { whole = refl; visits = s; wide = refl; broad = refl }
-
 module _ {I W : List ℕ} {m : Mark} {cells seen₀ set₀ seen set : List ℕ} {k : ℕ} (g : ReadableCells I W m cells seen₀ set₀)
     (h : Visiting I W m cells seen₀ set₀ seen set k) where
-  pub visiting_cell : ReadableCells I W m (get_or cells k 0 ∷ []) seen set
-  visiting_cell =
-      record {
-        good = g.good;
-        within = one;
-        wide = h.wide ∙ g.wide;
-        broad = h.broad ∙ g.broad;
-      }
-    where
-      one : (v : ℕ) → get_or (get_or cells k 0 ∷ []) v 0 ≤ m.terms
-      one zero = g.within k
-      one (suc v) = omega arith
-
   pub visiting_more : (seen' set' : List ℕ) → k < length cells → length seen' ≡ length seen → length set' ≡ length set →
       Gathered I W m (cell_vars (made I W m) (get_or cells k 0 ∷ [])) (holds set) (holds seen') (holds set') → Visiting I W m cells seen₀ set₀ seen' set' (k + 1)
   visiting_more seen' set' l e f w =

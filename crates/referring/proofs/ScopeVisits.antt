@@ -1,8 +1,7 @@
 -- Terms visited one after the other for their variables. Assumes nothing.
-use mathlib.Core.Path.{◌≡◌, refl, sym, ap, ◌∙◌}
+use mathlib.Core.Path.{◌≡◌, sym, ap, ◌∙◌}
 use mathlib.Core.List.{List, ◌∷◌}
 use Prim.Native.Nat.{ℕ, ◌+◌, ◌≤◌, ◌<◌}
-use native.Mathlib.Omega.{arith}
 use native.Mathlib.Numerals.{add-one}
 use lib.ListN.{length, get_or, drop, drop_of_length-le}
 use lib.Seq.{drop-cons}
@@ -14,8 +13,7 @@ use Rattle.rules.specs.Laws.Tree.{variables_none, variables_more}
 use Rattle.terms.specs.declared.store.Mark.{Mark}
 use Rattle.terms.specs.Sets.{holds}
 use Rattle.terms.specs.Table.{args_of, made, tree}
-use Rattle.terms.specs.Collect.{Seen, Readable, Visited}
-use Rattle.referring.specs.Recall.{ReadableAll}
+use Rattle.terms.specs.Collect.{Seen, Visited}
 use Rattle.referring.specs.Referral.{Gathered}
 
 next : (M : Made) (ids : List ℕ) (k : ℕ) → k < length ids → args_of M (drop k ids) ≡ more (get_or M (get_or ids k 0) (var 0)) (args_of M (drop (k + 1) ids))
@@ -33,14 +31,7 @@ pub record Visiting (I W : List ℕ) (m : Mark) (ids seen₀ set₀ seen set : L
   pub long_seen : length seen ≡ length seen₀
   pub long_set : length set ≡ length set₀
 
-pub visiting_begins : {I W : List ℕ} {m : Mark} {ids seen set : List ℕ} → Seen I W m (holds seen) (holds set) → Visiting I W m ids seen set seen set 0
-visiting_begins s = record { left = refl; visits = s; long_seen = refl; long_set = refl }
-
 module _ {I W : List ℕ} {m : Mark} {ids seen₀ set₀ seen set : List ℕ} {k : ℕ} (v : Visiting I W m ids seen₀ set₀ seen set k) where
-  pub visiting_ready : ReadableAll I W m ids seen₀ set₀ → k < length ids → Readable I W m (get_or ids k 0) seen set
-  visiting_ready r h =
-      record { good = r.good; there = r.there k h; wide = omega (arith, r.wide, v.long_seen); broad = omega (arith, r.broad, v.long_set) }
-
   pub visiting_on : {seen' set' : List ℕ} → k < length ids → length seen' ≡ length seen → length set' ≡ length set
       → Visited I W m (get_or ids k 0) (holds seen) (holds set) (holds seen') (holds set') → Visiting I W m ids seen₀ set₀ seen' set' (k + 1)
   visiting_on h p q c =

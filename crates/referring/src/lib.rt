@@ -3,6 +3,7 @@
 // and the terms made until then, on refusals too.
 #![tactic(auto)]
 
+pub mod entries;
 pub mod references;
 pub mod scope;
 pub mod source;

@@ -1,4 +1,4 @@
 pub mod Missing
 pub mod Opened
 pub mod Ends
-pub mod Lending
+pub mod Listing

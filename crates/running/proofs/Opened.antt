@@ -13,6 +13,7 @@ use Rattle.rules.specs.State.{Goal}
 use Rattle.rules.specs.Check.{count_open}
 use Rattle.rules.specs.TheoryTables.{name_cells}
 use Rattle.rules.specs.Laws.Theory.{all_at}
+use Rattle.terms.specs.declared.store.Mark.{Mark}
 use Rattle.terms.specs.Table.{made}
 use Rattle.terms.specs.Node.{HeldIn, OpenIs}
 use Rattle.terms.specs.Laws.Growth.{made_length}
@@ -34,29 +35,29 @@ open_at gs k l b e =
 pub record Opening (gs : List Goal) (many k : ℕ) : Type 0 where
   pub count : many + count_open (drop k gs) ≡ count_open gs
 
-module _ {rows index : List ℕ} {count : ℕ} (g : OpenRows rows index count) where
+module _ {rows index words : List ℕ} {mark : Mark} {count : ℕ} (g : OpenRows rows index words mark count) where
   pub open_rows_long : length rows ≡ 6 * GOALS
   open_rows_long = goals_long g.held
 
   -- what `goal_judgment` says
-  numbered : (k : ℕ) → k < count → Numbered (made index g.words g.mark) (get_or g.gs k no_goal).judgment (cell 6 rows k 2)
+  numbered : (k : ℕ) → k < count → Numbered (made index words mark) (get_or g.gs k no_goal).judgment (cell 6 rows k 2)
   unfolding goal_row name_cells
   numbered k l =
       numbered_at (cell 6 rows k 2) (all_at g.gs k no_goal g.there (omega (arith, g.held.many))) (goal_at g.held k 2 l (omega arith))
 
-  below : (k : ℕ) → k < count → cell 6 rows k 2 < g.mark.terms
-  below k l = let z = made_length index g.words g.mark in omega (arith, (numbered k l).below)
+  below : (k : ℕ) → k < count → cell 6 rows k 2 < mark.terms
+  below k l = let z = made_length index words mark in omega (arith, (numbered k l).below)
 
   -- what `is_open` asks
   pub judgment_held : {id : ℕ} (k : ℕ) → k < count → id ≡ cell 6 rows k 2 → HeldIn index id
   judgment_held {id} k l e =
-      record { words = g.words; held = record { mark = g.mark; good = g.good; there = subst (λ n. n < g.mark.terms) (sym e) (below k l) } }
+      record { words = words; held = record { mark = mark; good = g.good; there = subst (λ n. n < mark.terms) (sym e) (below k l) } }
 
   -- what it says
   open_is : {id : ℕ} {r : Bool} (k : ℕ) → k < count → id ≡ cell 6 rows k 2 → OpenIs index id r → is_open (get_or g.gs k no_goal).judgment ≡ r
   open_is {id} {r} k l e o =
-      ap is_open (sym (numbered k l).tree ∙ ap (λ n. get_or (made index g.words g.mark) n (var 0)) (sym e))
-      ∙ sym (o g.words g.mark g.good (subst (λ n. n < g.mark.terms) (sym e) (below k l)))
+      ap is_open (sym (numbered k l).tree ∙ ap (λ n. get_or (made index words mark) n (var 0)) (sym e))
+      ∙ sym (o words mark g.good (subst (λ n. n < mark.terms) (sym e) (below k l)))
 
   pub opening_start : Opening g.gs 0 0
   opening_start = record { count = omega arith }
@@ -82,19 +83,19 @@ module _ {rows index : List ℕ} {count : ℕ} (g : OpenRows rows index count) w
 -- The loop ---------------------------------------------------------------------------------------------------------------------------
 
 -- k goals are seen
-abbrev pub Seen : List ℕ → List ℕ → ℕ → ℕ → ℕ → Type 0
-Seen rows index count many k = (k ≤ count) × (many ≤ k) × ((g : OpenRows rows index count) → Opening g.gs many k)
+abbrev pub Seen : (rows index words : List ℕ) → Mark → (count many k : ℕ) → Type 0
+Seen rows index words mark count many k = (k ≤ count) × (many ≤ k) × ((g : OpenRows rows index words mark count) → Opening g.gs many k)
 
-module _ {rows index : List ℕ} {count many k id : ℕ} (h : Seen rows index count many k) (l : k < count) (e : id ≡ cell 6 rows k 2)
+module _ {rows index words : List ℕ} {mark : Mark} {count many k id : ℕ} (h : Seen rows index words mark count many k) (l : k < count) (e : id ≡ cell 6 rows k 2)
     (r : Bool) (o : OpenIs index id r) where
-  pub seen_more : {much : ℕ} → r ≡ true → much ≡ many + 1 → Seen rows index count much (k + 1)
+  pub seen_more : {much : ℕ} → r ≡ true → much ≡ many + 1 → Seen rows index words mark count much (k + 1)
   seen_more {much} t m = (
     omega arith,
     omega (arith, h.1),
     λ g. subst (λ n. Opening g.gs n (k + 1)) (sym m) (opening_more g (h.2 g) l e r o t),
   )
 
-  pub seen_skip : {much : ℕ} → r ≡ false → much ≡ many → Seen rows index count much (k + 1)
+  pub seen_skip : {much : ℕ} → r ≡ false → much ≡ many → Seen rows index words mark count much (k + 1)
   seen_skip {much} t m = (
     omega arith,
     omega (arith, h.1),

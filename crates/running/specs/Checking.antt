@@ -1,7 +1,7 @@
 -- A whole check over lent tables is what the definition says, and its tables can be read back (`Call` of ReadBack): from what stands when no form is left, what
 -- `end` leaves, and the records of facts made blank behind; or from a table that is too short. No word of code. Assumes nothing.
-use Rattle.std.specs.Prelude.{◌≡◌, refl, ℕ, zero, suc, ◌*◌, ◌≤◌, true, false, List, [], ◌∷◌, ◌++◌, length, take, drop, replicate}
-use Rattle.std.proofs.Common.{sym, ap, ◌∙◌, subst, true≢false, arith, take-append-drop, take_at}
+use Rattle.std.specs.Prelude.{◌≡◌, refl, ℕ, ◌*◌, ◌≤◌, List, [], ◌∷◌, ◌++◌, length, take, drop, Result, Ok, Err}
+use Rattle.std.proofs.Common.{sym, ap, ◌∙◌, subst, arith, take-append-drop, take_at}
 use Rattle.rules.specs.Limits.{SORTS, SYMBOLS, ARGUMENTS, RULES, RULEVARS, PATTERNS, VARIABLES, TERMS, WORDS, DEFS, GOALS, FACTS, ENTRIES}
 use Rattle.rules.specs.State.{State, goal_entries}
 use Rattle.rules.specs.Check.{refused_in, missing, ended, check}
@@ -10,23 +10,23 @@ use Rattle.rules.specs.StateTables.{Tables, Long, laid, missing_of, Laid, Checke
 use Rattle.rules.specs.Laws.Row.{length_rows, length_filled}
 use Rattle.kernel.specs.Parsed.{TheoryLists}
 use Rattle.kernel.specs.Layout.{laid_front, tables_exact}
+use Rattle.terms.specs.declared.store.Mark.{Mark}
 use Rattle.terms.specs.Table.{settled}
 use Rattle.terms.specs.Laws.Cells.{words_are, settled_is}
 use Rattle.state.specs.Filled.{filled_front}
 use Rattle.state.specs.FactLaws.{length_fact_cells, length_footing_cells}
-use Rattle.state.specs.Stands.{Board, trees_of, Leaves, stands_leaves}
+use Rattle.state.specs.declared.sizes.Sizes.{Sizes}
+use Rattle.state.specs.Stands.{trees_of, Leaves, stands_leaves}
 use Rattle.facts.specs.declared.Fact.{Fact}
 use Rattle.facts.specs.Table.{zeroed}
-use Rattle.counts.specs.declared.Counts.{Counts}
-use Rattle.counts.specs.Counted.{counts_of}
-use Rattle.running.specs.declared.run.Run.{Run}
-use Rattle.running.specs.declared.finish.Answer.{Answer as Answered}
-use Rattle.running.specs.Run.{unfit_run, room_of}
-use Rattle.running.specs.Course.{outcome_by, Over, Course, on, off}
-use Rattle.running.specs.Finished.{Finishes, answer_of, refusal_of}
+use Rattle.running.specs.declared.stopped.Stopped.{Stopped}
+use Rattle.running.specs.declared.finish.Report.{Report}
+use Rattle.running.specs.declared.finish.Refusal.{Refusal}
+use Rattle.running.specs.Course.{outcome_of, Over}
+use Rattle.running.specs.Finished.{Finishes, answer_of}
 use Rattle.running.specs.Lent.{Working, working, theory_front, board_front, TheoryBehind, WorkingBehind, fact_row, fact_foot, fact_rows, fact_feet, Mirrored}
 use Rattle.running.specs.ReadBack.{Read, Call, stands_read}
-use Rattle.running.specs.Between.{Held, AllLong, Ending}
+use Rattle.running.specs.Between.{AllLong}
 use Rattle.running.specs.RecordLaws.{zeroed_rows, zeroed_feet}
 
 -- All tables of a check, with the records of facts as cells
@@ -86,43 +86,31 @@ module _ {T : TheoryLists} {W : Working} {M : List ℕ} (fs : List Fact) where
       }
 
 -- a table is too short: all of them are as they were
-pub call_unfit : (theory goals proof : List ℕ) {T U : TheoryLists} {W Z : Working} {M N : List ℕ} (fs : List Fact) {gs : List Fact} {s : Run} {r : Answered} →
-    ¬ (AllLong (length fs) T W M) → U ≡ T → Z ≡ W → N ≡ M → gs ≡ fs → s ≡ unfit_run → r ≡ refusal_of s →
+abbrev pub unfit : Refusal
+unfit = record { number = 1; text = 0; form = 0; detail = 0 }
+
+pub call_unfit : (theory goals proof : List ℕ) {T U : TheoryLists} {W Z : Working} {M N : List ℕ} (fs : List Fact) {gs : List Fact} {r : Result Report Refusal} →
+    ¬ (AllLong (length fs) T W M) → U ≡ T → Z ≡ W → N ≡ M → gs ≡ fs → r ≡ Err unfit →
     Call theory goals proof (tables_of T W M fs) (tables_of U Z N gs) (answer_of r)
-call_unfit theory goals proof {T} {U} {W} {Z} {M} {N} fs {gs} {s} {r} n u v m f e a =
+call_unfit theory goals proof {T} {U} {W} {Z} {M} {N} fs {gs} {r} n u v m f e =
     record {
       checked =
-          subst (λ (x : Answered). Checked theory goals proof (tables_of T W M fs) (tables_of U Z N gs) (answer_of x)) (sym (a ∙ ap refusal_of e))
+          subst (λ (x : Result Report Refusal). Checked theory goals proof (tables_of T W M fs) (tables_of U Z N gs) (answer_of x)) (sym e)
           (too_short (λ l. n (long_all fs l)) (λ i. tables_of (u i) (v i) (m i) (f i)));
       read = λ l. absurd (n (long_all fs l));
     }
 
 -- What stands at the end -----------------------------------------------------------------------------------------------------------
 
--- no form is left
-pub over_of : {theory goals proof : List ℕ} {T : TheoryLists} {B : Board} {s : Run} {S : State} → Course theory goals proof T B s S → s.going ≡ false →
-    Over theory goals proof T B s S
-over_of (off o) e = o
-over_of (on u) e = absurd (true≢false (sym u.going ∙ e))
-
--- no more facts than there are rows
-pub facts_room : {theory goals proof : List ℕ} {T : TheoryLists} {W : Working} {rows feet : List ℕ} {s : Run} → Held theory goals proof T W rows feet s →
-    s.sizes.facts ≤ FACTS
-facts_room {theory} {goals} {proof} {T} {W} {rows} {feet} {s} h = go h.course
-  where
-    go : Course theory goals proof (theory_front T) (board_front W rows feet) s h.S → s.sizes.facts ≤ FACTS
-    go (on u) = omega (arith, u.stands.recorded.many, u.stands.recorded.rows.row12)
-    go (off o) = omega (arith, o.stands.recorded.many, o.stands.recorded.rows.row12)
-
 -- an answer keeps the state
-outcome_state : (n : ℕ) (s : Run) (S : State) → (outcome_by n s S).state ≡ S
-unfolding outcome_by ended refused_in
-outcome_state zero s S = go (missing S)
+outcome_state : (r : Result ℕ Stopped) (S : State) → (outcome_of r S).state ≡ S
+unfolding ended refused_in
+outcome_state (Ok k) S = go (missing S)
   where
-    go : (xs : List ℕ) → (ended s.forms S xs).state ≡ S
+    go : (xs : List ℕ) → (ended k S xs).state ≡ S
     go [] = refl
     go (x ∷ xs) = refl
-outcome_state (suc q) s S = refl
+outcome_state (Err s) S = refl
 
 -- a table whose named part is known, and behind it what was there
 laid_part : (n : ℕ) (cells before after : List ℕ) → length cells ≡ n → take n after ≡ cells → drop n after ≡ drop n before → after ≡ laid cells before
@@ -141,55 +129,59 @@ unfolding laid
 laid_front_is N cells before e =
     ap (take N) e ∙ take_at (filled N cells) (drop (length (filled N cells)) before) N (length_filled N cells)
 
-module _ {theory goals proof : List ℕ} (U : TheoryLists) (Z : Working) {rows feet : List ℕ} {s : Run} {S : State}
-    (o : Over theory goals proof (theory_front U) (board_front Z rows feet) s S) where
+module _ {theory goals proof : List ℕ} (U : TheoryLists) (Z : Working) {rows feet : List ℕ} {n : Sizes} {m : Mark} {e : Result ℕ Stopped} {S : State}
+    (o : Over theory goals proof (theory_front U) (board_front Z rows feet) n m e S) where
   state_is : S ≡ (check theory goals proof).state
-  state_is = sym (outcome_state s.text s S) ∙ ap (λ O. O.state) o.is
+  state_is = sym (outcome_state e S) ∙ ap (λ O. O.state) o.is
+
+  -- no more facts than there are rows
+  pub facts_room : n.facts ≤ FACTS
+  facts_room = omega (arith, o.stands.recorded.many, o.stands.recorded.rows.row12)
 
   leaves : Leaves (board_front Z rows feet) S
   leaves = stands_leaves o.stands (words_are o.stands.good)
 
   -- Facts: ys when no form is left, gs afterwards, fs before
-  module _ (fs : List Fact) {ys gs : List Fact} (m : Mirrored s.sizes.facts ys rows feet) (d : drop FACTS ys ≡ drop FACTS fs)
-      (z : gs ≡ zeroed ys s.sizes.facts FACTS) where
+  module _ (fs : List Fact) {ys gs : List Fact} (h : Mirrored n.facts ys rows feet) (d : drop FACTS ys ≡ drop FACTS fs)
+      (z : gs ≡ zeroed ys n.facts FACTS) where
     rows_laid : fact_rows gs ≡ laid (filled (6 * FACTS) (fact_cells S.made (goal_entries S.goals) S.facts)) (fact_rows fs)
     rows_laid =
         let cells = fact_cells S.made (goal_entries S.goals) S.facts in
-        let l : length cells ≡ 6 * s.sizes.facts =
+        let l : length cells ≡ 6 * n.facts =
         omega (arith, length_fact_cells S.made (goal_entries S.goals) S.facts, o.stands.recorded.many) in
         let k = o.stands.recorded.rows.row12 in
-        let n = o.stands.recorded.many in
-        zeroed_rows fs ys gs s.sizes.facts FACTS z d cells
-        (m.same_rows ∙ front_cells (6 * FACTS) (6 * s.sizes.facts) cells rows leaves.facts l (omega arith)) (omega arith)
+        let many = o.stands.recorded.many in
+        zeroed_rows fs ys gs n.facts FACTS z d cells
+        (h.same_rows ∙ front_cells (6 * FACTS) (6 * n.facts) cells rows leaves.facts l (omega arith)) (omega arith)
 
     feet_laid : fact_feet gs ≡ laid (filled (4 * FACTS) (footing_cells S.facts)) (fact_feet fs)
     feet_laid =
         let cells = footing_cells S.facts in
-        let l : length cells ≡ 4 * s.sizes.facts = omega (arith, length_footing_cells S.facts, o.stands.recorded.many) in
+        let l : length cells ≡ 4 * n.facts = omega (arith, length_footing_cells S.facts, o.stands.recorded.many) in
         let k = o.stands.recorded.rows.row12 in
-        let n = o.stands.recorded.many in
-        zeroed_feet fs ys gs s.sizes.facts FACTS z d cells
-        (m.same_feet ∙ front_cells (4 * FACTS) (4 * s.sizes.facts) cells feet leaves.footings l (omega arith)) (omega arith)
+        let many = o.stands.recorded.many in
+        zeroed_feet fs ys gs n.facts FACTS z d cells
+        (h.same_feet ∙ front_cells (4 * FACTS) (4 * n.facts) cells feet leaves.footings l (omega arith)) (omega arith)
 
   -- the index is settled
   module _ {index : List ℕ} (i : index ≡ settled (take (4 * TERMS) Z.index) ++ drop (4 * TERMS) Z.index) where
     index_laid : (before : List ℕ) → drop (4 * TERMS) Z.index ≡ drop (4 * TERMS) before → index ≡ laid (filled (4 * TERMS) (end_cells 0 S.made)) before
     index_laid before e =
-        i ∙ (λ j. (settled_is o.stands.good ∙ ap (λ m. filled (4 * TERMS) (end_cells 0 m)) o.stands.store) j ++ e j)
+        i ∙ (λ j. (settled_is o.stands.good ∙ ap (λ M. filled (4 * TERMS) (end_cells 0 M)) o.stands.store) j ++ e j)
         ∙ laid_front (4 * TERMS) (filled (4 * TERMS) (end_cells 0 S.made)) before (length_filled (4 * TERMS) (end_cells 0 S.made))
 
     index_front : take (4 * TERMS) index ≡ settled (take (4 * TERMS) Z.index)
     index_front =
         ap (take (4 * TERMS)) i
         ∙ take_at (settled (take (4 * TERMS) Z.index)) (drop (4 * TERMS) Z.index) (4 * TERMS)
-        (ap length (settled_is o.stands.good) ∙ length_filled (4 * TERMS) (end_cells 0 (trees_of (board_front Z rows feet) s.mark)))
+        (ap length (settled_is o.stands.good) ∙ length_filled (4 * TERMS) (end_cells 0 (trees_of (board_front Z rows feet) m)))
 
   -- T, W, M, fs: the tables before
-  module _ {T : TheoryLists} {W : Working} {index M N : List ℕ} (fs : List Fact) {ys gs : List Fact} {r : Answered}
+  module _ {T : TheoryLists} {W : Working} {index M N : List ℕ} (fs : List Fact) {ys gs : List Fact} {r : Result Report Refusal}
       (b : TheoryBehind T U) (w : WorkingBehind W Z)
-      (m : Mirrored s.sizes.facts ys rows feet) (d : drop FACTS ys ≡ drop FACTS fs)
+      (h : Mirrored n.facts ys rows feet) (d : drop FACTS ys ≡ drop FACTS fs)
       (i : index ≡ settled (take (4 * TERMS) Z.index) ++ drop (4 * TERMS) Z.index) (f : Finishes theory goals proof r (take GOALS N))
-      (k : drop GOALS N ≡ drop GOALS M) (z : gs ≡ zeroed ys s.sizes.facts FACTS) where
+      (k : drop GOALS N ≡ drop GOALS M) (z : gs ≡ zeroed ys n.facts FACTS) where
     laid_all : Laid (record { answer = (check theory goals proof).answer; state = S }) (tables_of T W M fs) (tables_of U (with_index Z index) N gs)
     laid_all =
         let x = tables_exact S.theory in
@@ -208,8 +200,8 @@ module _ {theory goals proof : List ℕ} (U : TheoryLists) (Z : Working) {rows f
           words = filled_part WORDS (word_cells S.made S.made) W.words Z.words leaves.words w.words;
           defs = filled_part (3 * DEFS) (def_cells S.made S.defs) W.defs Z.defs leaves.defs w.defs;
           goals = filled_part (6 * GOALS) (goal_cells S.made 0 S.goals) W.goals Z.goals leaves.goals w.goals;
-          facts = rows_laid fs m d z;
-          footings = feet_laid fs m d z;
+          facts = rows_laid fs h d z;
+          footings = feet_laid fs h d z;
           lists = filled_part ENTRIES (goal_list S.made S.goals ++ fact_list S.made S.facts) W.lists Z.lists leaves.lists w.lists;
           missing = record {
             named = missing_of (check theory goals proof).answer S;
@@ -231,46 +223,16 @@ module _ {theory goals proof : List ℕ} (U : TheoryLists) (Z : Working) {rows f
           read = λ l.
               subst (Read (tables_of U (with_index Z index) N gs)) state_is
               (stands_read (tables_of U (with_index Z index) N gs) o.stands (index_front i) refl refl
-              (laid_front_is (6 * FACTS) (fact_cells S.made (goal_entries S.goals) S.facts) (fact_rows fs) (rows_laid fs m d z) ∙ sym leaves.facts)
-              (laid_front_is (4 * FACTS) (footing_cells S.facts) (fact_feet fs) (feet_laid fs m d z) ∙ sym leaves.footings)
+              (laid_front_is (6 * FACTS) (fact_cells S.made (goal_entries S.goals) S.facts) (fact_rows fs) (rows_laid fs h d z) ∙ sym leaves.facts)
+              (laid_front_is (4 * FACTS) (footing_cells S.facts) (fact_feet fs) (feet_laid fs h d z) ∙ sym leaves.footings)
               refl);
         }
 
 -- T, W, M, fs: the tables before; U, Z, ys when no form is left; Z with index, N, gs afterwards
-pub call_fit : {theory goals proof : List ℕ} {T U : TheoryLists} {W Z : Working} {rows feet index M N : List ℕ} (fs : List Fact) {ys gs : List Fact} {s : Run}
-    {r : Answered} → AllLong (length fs) T W M → TheoryBehind T U → WorkingBehind W Z → Held theory goals proof U Z rows feet s → s.going ≡ false →
-    Mirrored s.sizes.facts ys rows feet → drop FACTS ys ≡ drop FACTS fs → index ≡ settled (take (4 * TERMS) Z.index) ++ drop (4 * TERMS) Z.index →
-    Finishes theory goals proof r (take GOALS N) → drop GOALS N ≡ drop GOALS M → gs ≡ zeroed ys s.sizes.facts FACTS →
+pub call_fit : {theory goals proof : List ℕ} {T U : TheoryLists} {W Z : Working} {rows feet index M N : List ℕ} (fs : List Fact) {ys gs : List Fact} {n : Sizes}
+    {m : Mark} {e : Result ℕ Stopped} {S : State} {r : Result Report Refusal} → AllLong (length fs) T W M → TheoryBehind T U → WorkingBehind W Z →
+    Over theory goals proof (theory_front U) (board_front Z rows feet) n m e S →
+    Mirrored n.facts ys rows feet → drop FACTS ys ≡ drop FACTS fs → index ≡ settled (take (4 * TERMS) Z.index) ++ drop (4 * TERMS) Z.index →
+    Finishes theory goals proof r (take GOALS N) → drop GOALS N ≡ drop GOALS M → gs ≡ zeroed ys n.facts FACTS →
     Call theory goals proof (tables_of T W M fs) (tables_of U (with_index Z index) N gs) (answer_of r)
-call_fit {U = U} {Z = Z} fs a b w h e m d i f k z = call_over U Z (over_of h.course e) fs b w m d i f k z a
-
--- What the parts ask at the end ----------------------------------------------------------------------------------------------------
-
--- `end`
-pub ending_of : {theory goals proof : List ℕ} {T : TheoryLists} {W : Working} {rows feet M : List ℕ} {s : Run} {c : Counts} →
-    (h : Held theory goals proof T W rows feet s) → s.going ≡ false → h.S.counts ≡ counts_of c → GOALS ≤ length M → take GOALS M ≡ replicate GOALS 0 →
-    Ending s c W.index W.words W.goals M
-ending_of {theory} {goals} {proof} {T} {W} {rows} {feet} h e c l z =
-    record {
-      theory = theory;
-      goals = goals;
-      proof = proof;
-      T = T;
-      vars = W.vars;
-      defs = W.defs;
-      lists = W.lists;
-      facts = rows;
-      feet = feet;
-      held = h;
-      over = e;
-      counted = c;
-      missing_long = l;
-      missing_zero = z;
-    }
-
--- `zero_behind`
-pub room_fit : (s : Run) → s.fit ≡ true → room_of s ≡ FACTS
-room_fit s e = ap (λ b. elim b [ true ↦ FACTS | false ↦ 0 ]) e
-
-pub room_unfit : (s : Run) → s.fit ≡ false → room_of s ≡ 0
-room_unfit s e = ap (λ b. elim b [ true ↦ FACTS | false ↦ 0 ]) e
+call_fit {U = U} {Z = Z} fs a b w o h d i f k z = call_over U Z o fs b w h d i f k z a

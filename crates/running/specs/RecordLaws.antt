@@ -1,12 +1,12 @@
 -- Laws of tables of records as rows of cells: records behind others, the first ones, those behind, blank ones; and the records beside the rows of the
 -- forms when a fact is stored. Assumes nothing.
-use Rattle.std.specs.Prelude.{◌≡◌, Bool, true, false, length}
+use Rattle.std.specs.Prelude.{◌≡◌, length, Option, Some as some, None as nothing}
 use Rattle.std.proofs.Math.Path.{refl, sym, ap}
 use Rattle.std.proofs.Common.{◌∙◌, subst, arith, mul-zero, take-add}
 use Prim.Native.Nat.{ℕ, zero, suc, ◌+◌, ◌-◌, ◌*◌, ◌<◌}
 use mathlib.Core.List.{List, [], ◌∷◌, ◌++◌, append-nil}
 use Rattle.std.proofs.Math.Nat.{mul-suc}
-use Rattle.std.proofs.Math.ListN.{take, drop, replicate, replicate-append-replicate}
+use Rattle.std.proofs.Math.ListN.{take, drop, set, replicate, replicate-append-replicate}
 use Rattle.std.proofs.Math.Seq.{take-nil, drop-nil, take-append-add, drop-append-add}
 use Rattle.rules.specs.TheoryTables.{filled, rows}
 use Rattle.rules.specs.StateTables.{laid}
@@ -92,15 +92,15 @@ one_behind f w n x xs table after e k o =
     ∙ ap (λ m. take m after) (let z : w * n + w ≡ w * suc n = omega (arith, mul-suc w n) in z)
 
 -- what a form leaves of rows and feet, and the record that is put in where a fact is stored
-pub mirrored_next : {n k : ℕ} {fs : List Fact} {table feet table' feet' : List ℕ} (stored : Bool) (f : Fact) → Mirrored n fs table feet →
-    take (6 * n) table' ≡ take (6 * n) table → take (4 * n) feet' ≡ take (4 * n) feet → StoredAs stored n k table' feet' f → (stored ≡ true → n < length fs) →
-    Mirrored k (appended stored fs n f) table' feet'
-mirrored_next {n} {k} {fs} {table} {feet} {table'} {feet'} true f m r t s l =
-    subst (λ j. Mirrored j (appended true fs n f) table' feet') (sym s.0) (record {
-      same_rows = ap fact_rows (take_appended fs n f (l refl)) ∙ one_behind fact_row 6 n f (take n fs) table table' m.same_rows r s.1.0
+pub mirrored_next : {n k : ℕ} {fs : List Fact} {table feet table' feet' : List ℕ} (o : Option Fact) → Mirrored n fs table feet →
+    take (6 * n) table' ≡ take (6 * n) table → take (4 * n) feet' ≡ take (4 * n) feet → StoredAs o n k table' feet' → ((f : Fact) → o ≡ some f → n < length fs) →
+    Mirrored k (appended o fs n) table' feet'
+mirrored_next {n} {k} {fs} {table} {feet} {table'} {feet'} (some f) m r t s l =
+    subst (λ j. Mirrored j (set fs n f) table' feet') (sym s.0) (record {
+      same_rows = ap fact_rows (take_appended fs n f (l f refl)) ∙ one_behind fact_row 6 n f (take n fs) table table' m.same_rows r s.1.0
           ∙ ap (λ j. take j table') (let z : 6 * suc n ≡ 6 * (n + 1) = omega arith in z);
-      same_feet = ap fact_feet (take_appended fs n f (l refl)) ∙ one_behind fact_foot 4 n f (take n fs) feet feet' m.same_feet t s.1.1
+      same_feet = ap fact_feet (take_appended fs n f (l f refl)) ∙ one_behind fact_foot 4 n f (take n fs) feet feet' m.same_feet t s.1.1
           ∙ ap (λ j. take j feet') (let z : 4 * suc n ≡ 4 * (n + 1) = omega arith in z);
     })
-mirrored_next {n} {k} {fs} {table} {feet} {table'} {feet'} false f m r t s l =
+mirrored_next {n} {k} {fs} {table} {feet} {table'} {feet'} nothing m r t s l =
     subst (λ j. Mirrored j fs table' feet') (sym s) (record { same_rows = m.same_rows ∙ sym r; same_feet = m.same_feet ∙ sym t })

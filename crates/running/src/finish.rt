@@ -4,13 +4,18 @@ ghost use Rattle.rules.specs.Limits.{GOALS};
 ghost use Rattle.rules.specs.Check.{count_open};
 ghost use Rattle.rules.specs.TheoryTables.{filled};
 ghost use Rattle.terms.specs.Table.{settled};
-ghost use Rattle.running.specs.Between.{Ending, Ended};
-ghost use Rattle.running.specs.Finished.{unproved, GoalRows, OpenRows, FinishGiven, Finishes, refusal_of, report_of};
+ghost use Rattle.terms.specs.Lent.{SameTables};
+ghost use Rattle.running.specs.Stopped.{refusal_of};
+ghost use Rattle.running.specs.Lent.{board_of};
+ghost use Rattle.running.specs.Finished.{unproved, GoalRows, OpenRowsIn, FinishGiven, Finishes, ListedFor};
 
-use crate::run::Run;
+use crate::stopped::{Stopped, Text};
+use cells::clear;
 use counts::Counts;
+use questions::{Question, Refused};
+use state::board::Board;
 use state::goals::{goal_judgment, is_taken};
-use terms::apart::{is_open, settle};
+use terms::store::{Store, Terms};
 
 // Facts; goals, those with variables; hypotheses, inductions, inversions, instances.
 #[derive(Clone, Copy, Debug, PartialEq, Eq)]
@@ -24,7 +29,7 @@ pub struct Report {
     pub instances: usize,
 }
 
-// Number; text: 0 none, 1 theory, 2 goals, 3 proof; complete forms before it; detail.
+// Number; text: 0 none, 1 theory, 2 goals, 3 proof; complete forms before it; detail. They are numbers since programs in other languages read them.
 #[derive(Clone, Copy, Debug, PartialEq, Eq)]
 pub struct Refusal {
     pub number: usize,
@@ -33,10 +38,18 @@ pub struct Refusal {
     pub detail: usize,
 }
 
-#[derive(Clone, Copy, Debug, PartialEq, Eq)]
-pub enum Answer {
-    Accepted(Report),
-    Refused(Refusal),
+impl From<Stopped> for Refusal {
+    ghost from_gives = { λ stopped refusal. refusal ≡ refusal_of stopped };
+
+    fn from(stopped: Stopped) -> Refusal {
+        let Refused { question, form } = stopped.refused;
+        Refusal {
+            number: question.number(),
+            text: stopped.text.number(),
+            form,
+            detail: question.detail(),
+        }
+    }
 }
 
 // The goals without a result come into the list, numbered from 1; how many they are.
@@ -55,107 +68,71 @@ fn list_missing(rows: &[u32], count: usize, missing: &mut [u32]) -> usize
 }
 
 // The goals whose judgment has a variable.
-fn count_open(rows: &[u32], index: &[u32], count: usize) -> usize
-    requires { OpenRows rows.now index.now count }
-    ensures { (g : OpenRows rows.now index.now count) → result ≡ count_open g.gs }
+fn count_open(rows: &[u32], terms: &Terms<'_>, count: usize) -> usize
+    requires { OpenRowsIn rows.now terms.now count }
+    ensures { (g : OpenRowsIn rows.now terms.now count) → result ≡ count_open g.gs }
 {
     let mut many = 0;
     for k in 0..count {
-        if is_open(index, goal_judgment(rows, k)) {
+        if terms.is_open(goal_judgment(rows, k)) {
             many += 1;
         }
     }
     many
 }
 
-// The refusal that is carried on.
-fn carried(s: Run) -> Answer
-    ensures { result ≡ refusal_of s }
+// The refusal where the check has stopped. The list belongs to 53, whoever asks it.
+fn carry(stopped: Stopped, rows: &[u32], count: usize, missing: &mut [u32]) -> Refusal
+    requires { GoalRows rows.now count × (missing.old ≡ replicate GOALS 0) }
+    ensures refusal { result ≡ refusal_of stopped }
+    ensures list { (g : GoalRows rows.now count) → ListedFor stopped.refused.question (unproved g.gs) missing.new }
 {
-    Answer::Refused(Refusal {
-        number: s.number,
-        text: s.text,
-        form: s.form,
-        detail: s.detail,
-    })
+    if let Question::MissingResults(_) = stopped.refused.question {
+        list_missing(rows, count, missing);
+    }
+    Refusal::from(stopped)
 }
 
-// What was counted, where so many goals are open.
-fn counted(s: Run, c: Counts, open_goals: usize) -> Answer
-    ensures { result ≡ report_of s c open_goals }
+// The answer to a check that has stopped, or has gone through so many forms of the proof.
+pub fn finish(
+    outcome: Result<usize, Stopped>,
+    counts: Counts,
+    board: &Board<'_>,
+    store: &mut Store<'_>,
+    missing: &mut [u32],
+) -> Result<Report, Refusal>
+    requires { FinishGiven outcome counts (board_of board.now store.old) board.now.n store.old.mark × (length missing.old ≡ GOALS) }
+    ensures same_tables { SameTables store.old store.new }
+    ensures finishes { (g : FinishGiven outcome counts (board_of board.now store.old) board.now.n store.old.mark) →
+        Finishes g.theory g.goals g.proof result missing.new }
+    ensures index_after { store.new.index.now ≡ settled store.old.index.now }
+    ensures words_after { store.new.words.now ≡ store.old.words.now }
 {
-    let n = s.sizes;
-    Answer::Accepted(Report {
+    let n = board.n;
+    let open_goals = count_open(board.rows, &store.terms(), n.goals);
+    store.settle();
+    clear(missing);
+    let forms = match outcome {
+        Ok(forms) => forms,
+        Err(stopped) => return Err(carry(stopped, board.rows, n.goals, missing)),
+    };
+    let many = list_missing(board.rows, n.goals, missing);
+    if many != 0 {
+        return Err(Refusal::from(Stopped {
+            text: Text::Proof,
+            refused: Refused {
+                question: Question::MissingResults(many),
+                form: forms,
+            },
+        }));
+    }
+    Ok(Report {
         steps: n.facts,
         goals: n.goals,
         open_goals,
-        hypotheses: c.hypotheses,
-        inductions: c.inductions,
-        inversions: c.inversions,
-        instances: c.instances,
+        hypotheses: counts.hypotheses,
+        inductions: counts.inductions,
+        inversions: counts.inversions,
+        instances: counts.instances,
     })
-}
-
-// The answer, where the tables have their named lengths. The list belongs to 53, whoever asks it.
-pub fn finish_exact(
-    s: Run,
-    c: Counts,
-    index: &mut [u32],
-    words: &[u32],
-    rows: &[u32],
-    missing: &mut [u32],
-) -> Answer
-    requires { FinishGiven s c index.old words.now rows.now missing.old }
-    ensures finishes { (g : FinishGiven s c index.old words.now rows.now missing.old) →
-        Finishes g.theory g.goals g.proof result missing.new }
-    ensures index_after { index.new ≡ settled index.old }
-{
-    let n = s.sizes;
-    let open_goals = count_open(rows, index, n.goals);
-    settle(index);
-    if s.text != 0 {
-        if s.number == 53 {
-            list_missing(rows, n.goals, missing);
-            return carried(s);
-        }
-        return carried(s);
-    }
-    let many = list_missing(rows, n.goals, missing);
-    if many != 0 {
-        return Answer::Refused(Refusal {
-            number: 53,
-            text: 3,
-            form: s.forms,
-            detail: many,
-        });
-    }
-    counted(s, c, open_goals)
-}
-
-// The same in tables as they are lent. Where one is too short, the answer is the refusal that is carried on.
-pub fn end(
-    s: Run,
-    c: Counts,
-    index: &mut [u32],
-    words: &[u32],
-    rows: &[u32],
-    missing: &mut [u32],
-) -> Answer
-    requires { s.fit ≡ true → Ending s c index.old words.now rows.now missing.old }
-    ensures ended { (g : Ending s c index.old words.now rows.now missing.old) →
-        Ended g.theory g.goals g.proof s index.old index.new missing.old missing.new result }
-    ensures ended_2 { s.fit ≡ false → (theory goals proof : List ℕ) →
-        Ended theory goals proof s index.old index.new missing.old missing.new result }
-{
-    if s.fit {
-        return finish_exact(
-            s,
-            c,
-            &mut index[..4 * rules::TERMS],
-            &words[..rules::WORDS],
-            &rows[..6 * rules::GOALS],
-            &mut missing[..rules::GOALS],
-        );
-    }
-    carried(s)
 }

@@ -1,6 +1,5 @@
-// The parts of a check, each over tables of their named lengths: the beginning up to the first form of the proof, one form, the end. What is carried from
-// part to part goes by value.
+// Where a check stops, and its end: the answer, over tables of their named lengths.
 #![tactic(auto)]
 
 pub mod finish;
-pub mod run;
+pub mod stopped;

@@ -1,3 +1,3 @@
+pub mod Lends
 pub mod Turning
-pub mod Looping
 pub mod Whole

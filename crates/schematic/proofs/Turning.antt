@@ -1,91 +1,100 @@
--- One form of the proof: what is asked of the callees, and that all stands again afterwards, with the record of the fact that was stored and the counts. Assumes
--- nothing.
-use mathlib.Core.Path.{◌≡◌, refl, sym, ap, subst, ◌∙◌}
-use Prim.Native.Nat.{ℕ, ◌<◌, ◌≤◌}
-use native.Mathlib.Omega.{arith}
-use mathlib.Core.Bool.{Bool, true, false, true≢false}
-use mathlib.Core.List.{List}
-use lib.ListN.{length, drop}
+-- One form of the proof: what is asked of the callees, and that all stands again afterwards, with the record of the fact that was stored and the counts;
+-- and what is left when no form is. Assumes nothing.
+use Rattle.std.specs.Prelude.{◌≡◌, refl, List, ℕ, ◌+◌, ◌<◌, ◌≤◌, length, drop, set, Option, Some as some, None as nothing, Result, Ok, Err}
+use Rattle.std.proofs.Common.{sym, ap, ◌∙◌, subst, arith}
 use Rattle.rules.specs.Limits.{LENGTH, FACTS}
 use Rattle.rules.specs.State.{State, Counts as Tally}
 use Rattle.rules.specs.Forms.{plus}
-use Rattle.kernel.specs.Parsed.{TheoryLists}
-use Rattle.state.specs.Stands.{Board}
+use Rattle.terms.specs.declared.store.Store.{Store}
+use Rattle.terms.specs.Lent.{SameTables}
+use Rattle.forms.specs.Boards.{SameBoard}
+use Rattle.advancing.specs.declared.advance.Scratch.{Scratch}
+use Rattle.state.specs.declared.board.Given.{Given}
+use Rattle.state.specs.declared.board.Board.{Board}
 use Rattle.facts.specs.declared.Fact.{Fact}
 use Rattle.facts.specs.Table.{appended}
 use Rattle.facts.specs.Laws.{length_appended, drop_appended}
 use Rattle.counts.specs.declared.Counts.{Counts}
 use Rattle.counts.specs.Sum.{sum, Fits}
 use Rattle.counts.specs.Counted.{counts_of, counts_sum}
-use Rattle.running.specs.declared.run.Run.{Run}
-use Rattle.running.specs.Lent.{Working}
-use Rattle.running.specs.Course.{Underway, Course, on, off}
-use Rattle.running.specs.Between.{Between, Going, Advanced, Few, StoredAs}
-use Rattle.schematic.specs.Taken.{Turned}
+use Rattle.sexp.specs.Never.{never}
+use Rattle.state.specs.declared.sizes.Sizes.{Sizes}
+use Rattle.running.specs.declared.stopped.Stopped.{Stopped}
+use Rattle.running.specs.Lent.{Mirrored}
+use Rattle.running.specs.Between.{Few, StoredAs}
 use Rattle.running.specs.RecordLaws.{mirrored_next}
-
-pub underway_of : {theory goals proof : List ℕ} {T : TheoryLists} {B : Board} {s : Run} {S : State} → Course theory goals proof T B s S → s.going ≡ true →
-    Underway theory goals proof T B s S
-underway_of (on u) e = u
-underway_of (off o) e = absurd (true≢false (sym e ∙ o.over))
-
--- there is a place for the record
-room_at : (stored : Bool) (n k room long : ℕ) (rows feet : List ℕ) (f : Fact) → StoredAs stored n k rows feet f → k ≤ room → room ≤ long → (stored ≡ true → n < long)
-room_at true n k room long rows feet f s l m e = omega (arith, s.0, l, m)
-room_at false n k room long rows feet f s l m e = absurd (true≢false (sym e))
-
--- what is behind the records of the check stays
-behind_appended : (stored : Bool) (n k : ℕ) (rows feet : List ℕ) (f : Fact) (fs : List Fact) → StoredAs stored n k rows feet f → k ≤ FACTS →
-    drop FACTS (appended stored fs n f) ≡ drop FACTS fs
-behind_appended true n k rows feet f fs s l = drop_appended fs n FACTS f (omega (arith, s.0, l))
-behind_appended false n k rows feet f fs s l = refl
+use Rattle.advancing.specs.declared.advance.Advance.{Advance}
+use Rattle.advancing.specs.Stepped.{SameScratch, Ready, Stay, Stepped, AdvancedAs, OverIn, left_in_proof}
+use Rattle.schematic.specs.Ran.{Kept, RanIn}
 
 few_fit : (c m : Counts) (forms : ℕ) → Few c forms → Few m 1 → forms ≤ LENGTH → Fits c m
 few_fit c m forms f g l =
     (omega (arith, f.hypotheses, g.hypotheses, l), (omega (arith, f.inductions, g.inductions, l), (omega (arith, f.inversions, g.inversions, l), omega (arith, f.instances, g.instances, l))))
 
-module _ {theory goals proof : List ℕ} {T : TheoryLists} {W : Working} {rows feet cells ids memo : List ℕ} {s : Run} {fs : List Fact} {c : Counts}
-    (b : Between theory goals proof T W rows feet cells ids memo s fs c × (s.going ≡ true)) where
-  -- what `form` asks
-  abbrev pub going_of : Going theory goals proof T W rows feet cells ids memo s
-  going_of = record { held = b.0.held; going = b.1; idle = b.0.idle }
+-- there is a place for the record
+room_at : (o : Option Fact) (n k room long : ℕ) (rows feet : List ℕ) → StoredAs o n k rows feet → k ≤ room → room ≤ long → (f : Fact) → o ≡ some f → n < long
+room_at (some h) n k room long rows feet s l m f e = omega (arith, s.0, l, m)
+room_at nothing n k room long rows feet s l m f e = never cc
 
-  forms_few : s.forms ≤ LENGTH
-  forms_few = let u = underway_of b.0.held.course b.1 in omega (arith, u.few, u.high, u.stands.spelling.short)
+-- what is behind the records of the check stays
+behind_stored : (o : Option Fact) (n k : ℕ) (rows feet : List ℕ) (fs : List Fact) → StoredAs o n k rows feet → k ≤ FACTS →
+    drop FACTS (appended o fs n) ≡ drop FACTS fs
+behind_stored (some f) n k rows feet fs s l = drop_appended fs n FACTS f (omega (arith, s.0, l))
+behind_stored nothing n k rows feet fs s l = refl
 
-  module _ {Z : Working} {rows' feet' cells' ids' memo' : List ℕ} {next : Run} {stored : Bool} {fact : Fact} {more : Counts}
-      (a : Advanced theory goals proof T W Z rows feet rows' feet' cells' ids' memo' s b.0.held.S next stored fact more) where
-    place : (stored ≡ true → s.sizes.facts < length fs)
-    place = room_at stored s.sizes.facts next.sizes.facts FACTS (length fs) rows' feet' fact a.stored_as a.room b.0.room
+module _ {g : Given} {b : Board} {s : Store} {p k : ℕ} {fs : List Fact} {c : Counts} (x : Kept g b s p k fs c) where
+  -- what `next_form` asks
+  abbrev pub ready : Ready g b s p
+  ready = record { k = k; S = x.S; underway = x.underway }
 
-    -- what `append_if` asks
-    pub placed : (is : Bool) (i : ℕ) → is ≡ stored → i ≡ s.sizes.facts → (is ≡ true → i < length fs)
-    placed is i e n h = subst (λ (k : ℕ). k < length fs) (sym n) (place (sym e ∙ h))
+  pub forms_few : k ≤ LENGTH
+  forms_few = omega (arith, x.underway.few, x.underway.high, x.underway.stands.spelling.short)
 
-    -- what `add` asks
-    pub fitting : (m : Counts) → m ≡ more → Fits c m
-    fitting m e = subst (Fits c) (sym e) (few_fit c more s.forms b.0.few a.small forms_few)
+  module _ (d : Board) (t : Store) (z : Stay b d) where
+    module _ {a : Advance} (e : Stepped g b d t k p x.S a) where
+      -- what `append_if` asks, and `add`
+      pub placed : (f : Fact) → a.fact ≡ some f → b.n.facts < length fs
+      placed = room_at a.fact b.n.facts d.n.facts FACTS (length fs) d.facts.now d.footings.now e.stored_as e.room x.room
 
-    after : Turned theory goals proof T W Z rows' feet' cells' ids' memo' s next fs (appended stored fs s.sizes.facts fact) (sum c more)
-    after = record {
-      between = record {
-        held = a.held;
-        idle = a.idle;
-        counted = a.counted ∙ ap (λ (x : Tally). plus x (counts_of more)) b.0.counted ∙ sym (counts_sum c more);
-        few = a.few c b.0.few;
-        room = subst (λ (k : ℕ). FACTS ≤ k) (sym (length_appended stored fs s.sizes.facts fact)) b.0.room;
-        mirrored = mirrored_next stored fact b.0.mirrored a.same_rows a.same_feet a.stored_as place;
-      };
-      behind = a.behind;
-      facts_behind = behind_appended stored s.sizes.facts next.sizes.facts rows' feet' fact fs a.stored_as a.room;
-      sooner = a.sooner;
-    }
+      pub fitting : Fits c a.counts
+      fitting = few_fit c a.counts k x.few e.small forms_few
 
-    -- all that was stored and counted
-    pub turned : {is : Bool} {i : ℕ} {f : Fact} {gs : List Fact} {m d : Counts} {r : Run} → is ≡ stored → i ≡ s.sizes.facts → f ≡ fact → gs ≡ appended is fs i f →
-        m ≡ more → d ≡ sum c m → r ≡ next → Turned theory goals proof T W Z rows' feet' cells' ids' memo' s r fs gs d
-    turned {is} {i} {f} {gs} {m} {d} {r} ei en ef eg em ed er =
-        subst (λ (x : Run). Turned theory goals proof T W Z rows' feet' cells' ids' memo' s x fs gs d) (sym er)
-        (subst (λ (x : Counts). Turned theory goals proof T W Z rows' feet' cells' ids' memo' s next fs gs x) (sym (ed ∙ ap (sum c) em))
-        (subst (λ (x : List Fact). Turned theory goals proof T W Z rows' feet' cells' ids' memo' s next fs x (sum c more))
-        (sym (eg ∙ (λ j. appended (ei j) fs (en j) (ef j)))) after))
+      after : Kept g d t a.end (k + 1) (appended a.fact fs b.n.facts) (sum c a.counts)
+      after =
+          record {
+            S = e.after;
+            underway = e.underway;
+            counted = e.counted ∙ ap (λ (y : Tally). plus y (counts_of a.counts)) x.counted ∙ sym (counts_sum c a.counts);
+            few = e.few c x.few;
+            room = subst (λ (l : ℕ). FACTS ≤ l) (sym (length_appended a.fact fs b.n.facts)) x.room;
+            mirrored = mirrored_next a.fact x.mirrored z.same_rows z.same_feet e.stored_as placed;
+          }
+
+      pub next : {gs : List Fact} {m : Counts} → gs ≡ appended a.fact fs b.n.facts → m ≡ sum c a.counts → Kept g d t a.end (k + 1) gs m
+      next q w = subst (λ (y : List Fact × Counts). Kept g d t a.end (k + 1) y.0 y.1) (λ i. (sym q i, sym w i)) after
+
+      pub next_behind : {gs : List Fact} → gs ≡ appended a.fact fs b.n.facts → drop FACTS gs ≡ drop FACTS fs
+      next_behind q = ap (drop FACTS) q ∙ behind_stored a.fact b.n.facts d.n.facts d.facts.now d.footings.now fs e.stored_as e.room
+
+    -- no form is left
+    pub ran : (r : Result ℕ Stopped) → OverIn g d t r x.S → d.n ≡ b.n → RanIn g d t r fs c
+    ran r o e =
+        record {
+          S = x.S;
+          over = o;
+          counted = x.counted;
+          room = x.room;
+          mirrored = subst (λ (n : Sizes). Mirrored n.facts fs d.facts.now d.footings.now) (sym e)
+              (record { same_rows = x.mirrored.same_rows ∙ sym z.same_rows; same_feet = x.mirrored.same_feet ∙ sym z.same_feet });
+        }
+
+-- The references stay ----------------------------------------------------------------------------------------------------------------
+
+pub boards_then : (a b c : Board) → SameBoard a b → SameBoard b c → SameBoard a c
+boards_then a b c p q = (q.0 ∙ p.0, q.1 ∙ p.1, q.2 ∙ p.2, q.3 ∙ p.3, q.4 ∙ p.4, q.5 ∙ p.5)
+
+pub stores_then : (a b c : Store) → SameTables a b → SameTables b c → SameTables a c
+stores_then a b c p q = (q.0 ∙ p.0, q.1 ∙ p.1)
+
+pub scratch_then : (a b c : Scratch) → SameScratch a b → SameScratch b c → SameScratch a c
+scratch_then a b c p q = (q.0 ∙ p.0, q.1 ∙ p.1, q.2 ∙ p.2)

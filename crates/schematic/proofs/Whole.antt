@@ -1,30 +1,37 @@
 -- The whole check: what its parts ask of each other, and that all of it is a call as the definition says; where a table is too short too. Assumes nothing.
-use mathlib.Core.Path.{◌≡◌, refl, sym, ap, subst, ◌∙◌}
-use Prim.Native.Nat.{ℕ, ◌≤◌}
-use native.Mathlib.Omega.{arith}
-use mathlib.Core.Bool.{Bool, true, false, true≢false}
-use mathlib.Core.List.{List, ◌++◌}
-use lib.ListN.{length, take, drop, replicate, length-append, length-replicate}
-use lib.Seq.{take_at, drop_at}
-use Rattle.rules.specs.Limits.{GOALS, FACTS}
+use Rattle.std.specs.Prelude.{◌≡◌, refl, List, ◌++◌, ℕ, ◌*◌, ◌≤◌, length, take, drop, Result, Ok, Err}
+use Rattle.std.proofs.Common.{sym, ap, ◌∙◌, subst, arith, take_at, drop_at}
+use Rattle.rules.specs.Limits.{SORTS, SYMBOLS, ARGUMENTS, RULES, RULEVARS, PATTERNS, VARIABLES, TERMS, WORDS, DEFS, GOALS, FACTS, ENTRIES}
+use Rattle.rules.specs.State.{no_counts}
 use Rattle.rules.specs.TheoryTables.{rows as rows_of}
-use Rattle.kernel.specs.Parsed.{TheoryLists}
+use Rattle.kernel.specs.Parsed.{TheoryLists, theory_lists}
+use Rattle.terms.specs.declared.store.Mark.{Mark}
+use Rattle.terms.specs.Table.{settled}
+use Rattle.state.specs.declared.sizes.Sizes.{Sizes}
+use Rattle.terms.specs.declared.store.Store.{Store}
+use Rattle.state.specs.declared.board.Given.{Given}
+use Rattle.state.specs.declared.board.Board.{Board as Lent}
+use Rattle.state.specs.Stands.{Board, board}
+use Rattle.forms.specs.Boards.{theory_of, tables_of as tables_in}
 use Rattle.facts.specs.declared.Fact.{Fact}
 use Rattle.facts.specs.Table.{zeroed}
-use Rattle.facts.specs.Laws.{drop_zeroed, zeroed_none}
+use Rattle.facts.specs.Laws.{drop_zeroed}
 use Rattle.counts.specs.declared.Counts.{Counts}
 use Rattle.counts.specs.Sum.{none}
 use Rattle.counts.specs.Counted.{counts_of, counts_none}
-use Rattle.running.specs.declared.run.Run.{Run}
-use Rattle.running.specs.declared.finish.Answer.{Answer}
-use Rattle.running.specs.Run.{unfit_run, room_of}
-use Rattle.running.specs.Finished.{answer_of}
-use Rattle.running.specs.Lent.{Working, TheoryBehind, WorkingBehind, Mirrored}
-use Rattle.running.specs.Between.{Few, AllLong, Begun, begun, unfit, Ending, Ended, ended}
+use Rattle.running.specs.declared.stopped.Stopped.{Stopped}
+use Rattle.running.specs.declared.finish.Report.{Report}
+use Rattle.running.specs.declared.finish.Refusal.{Refusal}
+use Rattle.running.specs.Course.{Underway, Over}
+use Rattle.running.specs.Finished.{FinishGiven, Finishes, answer_of}
+use Rattle.running.specs.Lent.{Working, working, theory_front, board_front, Mirrored}
+use Rattle.running.specs.Between.{Few, AllLong}
 use Rattle.running.specs.ReadBack.{Call}
-use Rattle.running.specs.Checking.{tables_of, with_index, call_fit, call_unfit, facts_room, room_fit, room_unfit}
-use Rattle.schematic.specs.Taken.{Kept, Untouched, Ran, Blank}
-use Rattle.schematic.proofs.Looping.{behind_both}
+use Rattle.running.specs.Checking.{tables_of, with_index, unfit, call_fit, call_unfit, facts_room}
+use Rattle.beginning.specs.Lengths.{Fits}
+use Rattle.beginning.specs.Opened.{Opened}
+use Rattle.schematic.specs.Ran.{Kept, Ran, unsettled, Whole, Filled}
+use Rattle.schematic.proofs.Lends.{front_is, behind_is, theory_exact, board_exact, theory_now, theory_front_lem, theory_behind, working_now, board_front_lem, working_behind}
 
 -- The beginning --------------------------------------------------------------------------------------------------------------------
 
@@ -35,136 +42,154 @@ mirrored_none : (n : ℕ) (fs : List Fact) (rows feet : List ℕ) → n ≡ 0 �
 unfolding rows_of
 mirrored_none n fs rows feet e = subst (λ (k : ℕ). Mirrored k fs rows feet) (sym e) (record { same_rows = refl; same_feet = refl })
 
-unfit_is : {s : Run} → s ≡ unfit_run → s.fit ≡ false
-unfit_is e = ap (λ (x : Run). x.fit) e
+module _ {theory goals proof : List ℕ} {T : TheoryLists} {B : Board} {n : Sizes} {m : Mark} {fs : List Fact} {c : Counts} (l : FACTS ≤ length fs) (z : c ≡ none) where
+  -- a question is left before the proof
+  pub left : {s : Stopped} → Opened theory goals proof T B n m (Err s) → Ran theory goals proof T B n m (Err s) fs c
+  left o =
+      record {
+        S = o.S;
+        over = o.course;
+        counted = o.counts ∙ sym (ap counts_of z ∙ counts_none);
+        room = l;
+        mirrored = mirrored_none n.facts fs B.facts B.footings o.facts;
+      }
 
-module _ {theory goals proof : List ℕ} {T U : TheoryLists} {W Y : Working} {M N rows feet cells ids memo cells' : List ℕ} {s : Run} {fs : List Fact}
-    (b : Begun theory goals proof (length fs) T U W Y M N rows feet s) where
-  -- what `run` asks
-  pub opened : {c : Counts} → c ≡ none → Blank rows feet cells ids memo → cells' ≡ cells → Kept theory goals proof U Y rows feet cells' ids memo s fs c
-  opened {c} e z k = go b
-    where
-      go : Begun theory goals proof (length fs) T U W Y M N rows feet s → Kept theory goals proof U Y rows feet cells' ids memo s fs c
-      go (unfit _ _ _ _ r) =
-          record { fit = λ h. absurd (true≢false (sym h ∙ unfit_is r)); unfit = λ _. ap (λ (x : Run). x.going) r }
-      go (begun a h p q _ _ _) =
-          record {
-            fit = λ _. record {
-              held = h;
-              idle = record { cells_zero = k ∙ z.1.1.0; ids_zero = z.1.1.1.0; memo_zero = z.1.1.1.1 };
-              counted = p ∙ sym (ap counts_of e ∙ counts_none);
-              few = subst (λ (x : Counts). Few x s.forms) (sym e) (few_none s.forms);
-              room = a.facts;
-              mirrored = mirrored_none s.sizes.facts fs rows feet q;
-            };
-            unfit = λ f. absurd (true≢false (sym h.fit ∙ f));
-          }
+-- it begins
+module _ (g : Given) (b : Lent) (t : Store) {fs : List Fact} {c : Counts} (l : FACTS ≤ length fs) (z : c ≡ none) where
+  pub begun : {u : Unit {0}} → Opened g.theory.now g.goals.now g.text.now (theory_of g) (tables_in b t) b.n t.mark (Ok u) → Kept g b t 0 0 fs c
+  begun o =
+      record {
+        S = o.S;
+        underway = o.course;
+        counted = o.counts ∙ sym (ap counts_of z ∙ counts_none);
+        few = subst (λ (x : Counts). Few x 0) (sym z) (few_none 0);
+        room = l;
+        mirrored = mirrored_none b.n.facts fs b.facts.now b.footings.now o.facts;
+      }
 
 -- The end --------------------------------------------------------------------------------------------------------------------------
 
-front_zero : {N rest : List ℕ} → N ≡ replicate GOALS 0 ++ rest → take GOALS N ≡ replicate GOALS 0
-front_zero {N} {rest} e = ap (take GOALS) e ∙ take_at (replicate GOALS 0) rest GOALS (length-replicate {A = ℕ} GOALS 0)
-
-front_long : {N rest : List ℕ} → N ≡ replicate GOALS 0 ++ rest → GOALS ≤ length N
-front_long {N} {rest} e = omega (arith, ap length e ∙ length-append (replicate GOALS 0) rest, length-replicate {A = ℕ} GOALS 0)
-
-back_same : {N rest : List ℕ} → N ≡ replicate GOALS 0 ++ rest → drop GOALS N ≡ rest
-back_same {N} {rest} e = ap (drop GOALS) e ∙ drop_at (replicate GOALS 0) rest GOALS (length-replicate {A = ℕ} GOALS 0)
-
--- what `begin` leaves where the tables are long enough
-record Opening (theory goals proof : List ℕ) (T U : TheoryLists) (W Y : Working) (M N : List ℕ) (fs : List Fact) : Type 0 where
-  long : AllLong (length fs) T W M
-  theory_behind : TheoryBehind T U
-  behind : WorkingBehind W Y
-  empty : N ≡ replicate GOALS 0 ++ drop GOALS M
-
-either : {A : Type 0} (b : Bool) → (b ≡ true → A) → (b ≡ false → A) → A
-either true f g = f refl
-either false f g = g refl
-
-module _ (theory goals proof : List ℕ) (T U : TheoryLists) (W Y Z : Working) (M N rows feet rows' feet' cells ids memo : List ℕ) (s e : Run) (fs ys : List Fact) (c : Counts)
-    (b : Begun theory goals proof (length fs) T U W Y M N rows feet s) (u : Ran theory goals proof U Y Z rows' feet' cells ids memo s e fs ys c) where
-  opening : e.fit ≡ true → Opening theory goals proof T U W Y M N fs
-  opening f = go b
-    where
-      go : Begun theory goals proof (length fs) T U W Y M N rows feet s → Opening theory goals proof T U W Y M N fs
-      go (unfit _ _ _ _ r) = absurd (true≢false (sym f ∙ u.same_fit ∙ unfit_is r))
-      go (begun a _ _ _ t w n) = record { long = a; theory_behind = t; behind = w; empty = n }
-
-  -- a table is too short
-  refused : e.fit ≡ false → e ≡ unfit_run
-  refused f = go b
-    where
-      go : Begun theory goals proof (length fs) T U W Y M N rows feet s → e ≡ unfit_run
-      go (unfit _ _ _ _ r) = (u.untouched (sym u.same_fit ∙ f)).run ∙ r
-      go (begun _ h _ _ _ _ _) = absurd (true≢false (sym h.fit ∙ sym u.same_fit ∙ f))
-
-  -- what `end` asks
-  abbrev ending_at : e.fit ≡ true → Ending e c Z.index Z.words Z.goals N
-  ending_at f =
-      record {
-        theory = theory;
-        goals = goals;
-        proof = proof;
-        T = U;
-        vars = Z.vars;
-        defs = Z.defs;
-        lists = Z.lists;
-        facts = rows';
-        feet = feet';
-        held = (u.kept.fit f).held;
-        over = u.over;
-        counted = (u.kept.fit f).counted;
-        missing_long = front_long (opening f).empty;
-        missing_zero = front_zero (opening f).empty;
-      }
-
-  pub ending : (e.fit ≡ true → Ending e c Z.index Z.words Z.goals N)
-  ending f = ending_at f
+module _ {theory goals proof : List ℕ} {T : TheoryLists} {B : Board} {n : Sizes} {m : Mark} {e : Result ℕ Stopped} {ys : List Fact} {c : Counts}
+    (r : Ran theory goals proof T B n m e ys c) where
+  -- what `finish` asks
+  abbrev pub finish_asks : FinishGiven e c B n m
+  finish_asks = record { theory = theory; goals = goals; proof = proof; T = T; S = r.S; over = r.over; counted = r.counted }
 
   -- what `zero_behind` asks
-  pub blanks : (i j : ℕ) → i ≡ e.sizes.facts → j ≡ room_of e → (i ≤ j) × (j ≤ length ys)
-  blanks i j p q =
-      either e.fit
-      (λ f. let l = facts_room (u.kept.fit f).held in let m = room_fit e f in let k = (u.kept.fit f).room in
-      (omega (arith, p, q, l, m), omega (arith, q, m, k)))
-      (λ f. let l = ap (λ (x : Run). x.sizes.facts) (refused f) in let m = room_unfit e f in (omega (arith, p, q, l, m), omega (arith, q, m)))
+  pub blanks : (n.facts ≤ FACTS) × (FACTS ≤ length ys)
+  blanks = (omega (arith, r.over.stands.recorded.many, r.over.stands.recorded.rows.row12), r.room)
 
-  module _ (index N' : List ℕ) (gs : List Fact) (r : Answer) (i j : ℕ) (p : i ≡ e.sizes.facts) (q : j ≡ room_of e) (z : gs ≡ zeroed ys i j) where
-    abbrev Said : Type 0
-    Said = Call theory goals proof (tables_of T W M fs) (tables_of U (with_index Z index) N' gs) (answer_of r) × (drop FACTS gs ≡ drop FACTS fs)
+  -- what is left then: gs the records, with blank ones; W, J: the words and the index of the store
+  pub whole : {fs gs : List Fact} {W J list : List ℕ} {o : Result Report Refusal} → drop FACTS ys ≡ drop FACTS fs → J ≡ settled B.index → W ≡ B.words →
+      Finishes theory goals proof o list → gs ≡ zeroed ys n.facts FACTS →
+      Whole theory goals proof T (board B.vars J W B.defs B.goals B.facts B.footings B.lists) list fs gs o
+  whole d j w f z =
+      record {
+        index = B.index;
+        n = n;
+        m = m;
+        e = e;
+        S = r.S;
+        over = subst (λ x. Over theory goals proof T (board B.vars B.index x B.defs B.goals B.facts B.footings B.lists) n m e r.S) (sym w) r.over;
+        index_is = j;
+        ys = ys;
+        mirrored = r.mirrored;
+        room = r.room;
+        behind = d;
+        zeroed_is = z;
+        finishes = f;
+      }
 
-    fit_said : e.fit ≡ true → Ended theory goals proof e Z.index index N N' r → Said
-    fit_said f (unfit h _ _ _) = absurd (true≢false (sym f ∙ h))
-    fit_said f (ended _ n x d) =
-        let o = opening f in
-        let k = u.kept.fit f in
-        let l = facts_room k.held in
-        let y : gs ≡ zeroed ys e.sizes.facts FACTS = z ∙ (λ h. zeroed ys (p h) ((q ∙ room_fit e f) h)) in (
-          call_fit {U = U} {Z = Z} fs o.long o.theory_behind (behind_both o.behind u.behind) k.held u.over k.mirrored u.facts_behind x n
-              (d ∙ back_same o.empty) y,
-          ap (drop FACTS) y ∙ drop_zeroed ys e.sizes.facts FACTS l k.room ∙ u.facts_behind,
-        )
+-- Tables of any length ---------------------------------------------------------------------------------------------------------------
 
-    unfit_said : e.fit ≡ false → Ended theory goals proof e Z.index index N N' r → Said
-    unfit_said f (ended h _ _ _) = absurd (true≢false (sym h ∙ f))
-    unfit_said f (unfit _ a x n) = go b
-      where
-        same : Untouched Y Z s e fs ys
-        same = u.untouched (sym u.same_fit ∙ f)
+-- the parts that a check fills, in their places
+module _ {theory goals proof : List ℕ} {U : TheoryLists} (W : Working) (M : List ℕ) {fs gs : List Fact} {B : Board} {list : List ℕ}
+    {r : Result Report Refusal} (w : Whole theory goals proof U B list fs gs r) (l : length list ≡ GOALS) where
+  abbrev Z : Board
+  Z = unsettled B w.index
 
-        nothing : i ≡ j
-        nothing = let l = ap (λ (x : Run). x.sizes.facts) (refused f) in let m = room_unfit e f in omega (arith, p, q, l, m)
+  pub filled : Filled theory goals proof U W (working_now B W) M (list ++ drop GOALS M) fs gs r
+  filled =
+      let x = board_exact w.over.stands in
+      record {
+        index = w.index ++ drop (4 * TERMS) W.index;
+        rows = B.facts;
+        feet = B.footings;
+        n = w.n;
+        m = w.m;
+        e = w.e;
+        S = w.S;
+        over = subst (λ (y : Board). Over theory goals proof U y w.n w.m w.e w.S) (board_front_lem W x) w.over;
+        working_behind = working_behind W x;
+        index_is = λ i. (w.index_is ∙ ap settled (front_is w.index W.index x.index)) i ++ sym (behind_is w.index W.index x.index) i;
+        ys = w.ys;
+        mirrored = w.mirrored;
+        room = w.room;
+        behind = w.behind;
+        zeroed_is = w.zeroed_is;
+        finishes = subst (Finishes theory goals proof r) (sym (take_at list (drop GOALS M) GOALS l)) w.finishes;
+        list_behind = drop_at list (drop GOALS M) GOALS l;
+      }
 
-        records : gs ≡ fs
-        records = z ∙ zeroed_none ys i j nothing ∙ same.facts
+  -- each of them
+  pub filled_as : {v i d g j x k : List ℕ} → v ≡ B.vars ++ drop (4 * VARIABLES) W.vars → i ≡ B.index ++ drop (4 * TERMS) W.index → x ≡ B.words ++ drop WORDS W.words →
+      d ≡ B.defs ++ drop (3 * DEFS) W.defs → g ≡ B.goals ++ drop (6 * GOALS) W.goals → j ≡ B.lists ++ drop ENTRIES W.lists → k ≡ list ++ drop GOALS M →
+      Filled theory goals proof U W (working v i x d g j) M k fs gs r
+  filled_as a b c d e f h =
+      subst (λ (y : Working × List ℕ). Filled theory goals proof U W y.0 M y.1 fs gs r)
+      (λ i. (working (sym a i) (sym b i) (sym c i) (sym d i) (sym e i) (sym f i), sym h i)) filled
 
-        go : Begun theory goals proof (length fs) T U W Y M N rows feet s → Said
-        go (unfit short eu ew en _) =
-            (call_unfit theory goals proof fs short eu (ap (with_index Z) x ∙ same.tables ∙ ew) (n ∙ en) records (refused f) a, ap (drop FACTS) records)
-        go (begun _ h _ _ _ _ _) = absurd (true≢false (sym h.fit ∙ sym u.same_fit ∙ f))
+module _ {theory goals proof : List ℕ} {T U : TheoryLists} {W Z : Working} {M N : List ℕ} {fs gs : List Fact} {r : Result Report Refusal}
+    (a : AllLong (length fs) T W M) (w : Filled theory goals proof U W Z M N fs gs r) where
+  pub called : Call theory goals proof (tables_of T W M fs) (tables_of (theory_now U T) Z N gs) (answer_of r) × (drop FACTS gs ≡ drop FACTS fs)
+  called =
+      let x = theory_exact w.over.stands in (
+        call_fit {U = theory_now U T} {Z = with_index Z w.index} fs a (theory_behind T x) w.working_behind
+            (subst (λ (y : TheoryLists). Over theory goals proof y (board_front (with_index Z w.index) w.rows w.feet) w.n w.m w.e w.S) (theory_front_lem T x) w.over)
+            w.mirrored w.behind w.index_is w.finishes w.list_behind w.zeroed_is,
+        ap (drop FACTS) w.zeroed_is ∙ drop_zeroed w.ys w.n.facts FACTS
+            (omega (arith, w.over.stands.recorded.many, w.over.stands.recorded.rows.row12)) w.room ∙ w.behind,
+      )
 
-    -- all of it
-    pub called : ((g : Ending e c Z.index Z.words Z.goals N) → Ended g.theory g.goals g.proof e Z.index index N N' r) →
-        (e.fit ≡ false → (theory goals proof : List ℕ) → Ended theory goals proof e Z.index index N N' r) → Said
-    called d k = either e.fit (λ f. fit_said f (d (ending_at f))) (λ f. unfit_said f (k f theory goals proof))
+  pub called_as : {a' b' c' d' e' f' : List ℕ} → a' ≡ U.sorts ++ drop (2 * SORTS) T.sorts → b' ≡ U.symbols ++ drop (4 * SYMBOLS) T.symbols →
+      c' ≡ U.inputs ++ drop (ARGUMENTS * SYMBOLS) T.inputs → d' ≡ U.rules ++ drop (6 * RULES) T.rules →
+      e' ≡ U.rule_vars ++ drop (3 * RULEVARS * RULES) T.rule_vars → f' ≡ U.patterns ++ drop PATTERNS T.patterns →
+      Call theory goals proof (tables_of T W M fs) (tables_of (theory_lists a' b' c' d' e' f') Z N gs) (answer_of r) × (drop FACTS gs ≡ drop FACTS fs)
+  called_as p q x y z v =
+      subst (λ (t : TheoryLists). Call theory goals proof (tables_of T W M fs) (tables_of t Z N gs) (answer_of r) × (drop FACTS gs ≡ drop FACTS fs))
+      (λ i. theory_lists (sym p i) (sym q i) (sym x i) (sym y i) (sym z i) (sym v i)) called
+
+-- Question 1, by the lengths -------------------------------------------------------------------------------------------------------
+
+module _ (room : ℕ) (T : TheoryLists) (W : Working) (M : List ℕ) where
+  abbrev pub LengthsFit : Type 0
+  LengthsFit =
+      Fits (length T.sorts) (length T.symbols) (length T.inputs) (length T.rules) (length T.rule_vars) (length T.patterns) (length W.vars)
+      (length W.index) (length W.words) (length W.defs) (length W.goals) (length W.lists) (length M) room
+
+  pub all_long : LengthsFit → AllLong room T W M
+  all_long h =
+      let t = h.theory in
+      let w = h.working in
+      record {
+        theory = record { sorts = t.sorts; symbols = t.symbols; inputs = t.inputs; rules = t.rules; rule_vars = t.rule_vars; patterns = t.patterns };
+        working = record { vars = w.vars; index = w.index; words = w.words; defs = w.defs; goals = w.goals; lists = w.lists };
+        missing = h.missing;
+        facts = h.facts;
+      }
+
+  pub all_fit : AllLong room T W M → LengthsFit
+  all_fit h =
+      let t = h.theory in
+      let w = h.working in
+      record {
+        theory = record { sorts = t.sorts; symbols = t.symbols; inputs = t.inputs; rules = t.rules; rule_vars = t.rule_vars; patterns = t.patterns };
+        working = record { vars = w.vars; index = w.index; words = w.words; defs = w.defs; goals = w.goals; lists = w.lists };
+        missing = h.missing;
+        facts = h.facts;
+      }
+
+-- a table is too short
+pub short : (theory goals proof : List ℕ) (T : TheoryLists) (W : Working) (M : List ℕ) (fs : List Fact) → ¬ (LengthsFit (length fs) T W M) →
+    Call theory goals proof (tables_of T W M fs) (tables_of T W M fs) (answer_of (Err unfit)) × (drop FACTS fs ≡ drop FACTS fs)
+short theory goals proof T W M fs n = (call_unfit theory goals proof fs (λ a. n (all_fit (length fs) T W M a)) refl refl refl refl refl, refl)

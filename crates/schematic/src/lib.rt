@@ -1,125 +1,192 @@
-// The whole check over lent tables and records of facts. Nothing is tested here and nothing computed: each function calls those that are covered, one
-// after the other, and a refusal goes on by value.
+// The whole check over lent tables and records of facts: the tables are cut to their named lengths, cleared, and filled form by form.
 #![tactic(auto)]
 
-ghost use Rattle.std.specs.Prelude.{◌≡◌, true, drop};
-ghost use Rattle.rules.specs.Limits.{FACTS};
-ghost use Rattle.kernel.specs.Parsed.{theory_lists};
+ghost use Rattle.std.specs.Prelude.{◌≡◌, ◌≤◌, length, drop};
+ghost use Rattle.rules.specs.Limits.{GOALS, FACTS};
+ghost use Rattle.kernel.specs.Parsed.{theory_lists, Exact};
+ghost use Rattle.kernel.specs.Tables.{lists_of, SameTables as SameTheory};
+ghost use Rattle.terms.specs.Lent.{SameTables};
+ghost use Rattle.counts.specs.Sum.{none};
+ghost use Rattle.forms.specs.Boards.{tables_of, SameBoard};
 ghost use Rattle.running.specs.Finished.{answer_of};
-ghost use Rattle.running.specs.Lent.{working};
-ghost use Rattle.running.specs.Between.{Between};
+ghost use Rattle.running.specs.Lent.{working, LongWorking};
+ghost use Rattle.running.specs.Between.{AllLong};
 ghost use Rattle.running.specs.ReadBack.{Call};
-ghost use Rattle.running.specs.Checking.{tables_of};
-ghost use Rattle.schematic.specs.Taken.{Turned, Kept, Ran, Blank};
+ghost use Rattle.running.specs.Checking.{tables_of as all_tables};
+ghost use Rattle.beginning.specs.Opened.{Opening};
+ghost use Rattle.advancing.specs.Stepped.{IdleIn, SameScratch};
+ghost use Rattle.schematic.specs.Ran.{Kept, RanIn, Ran, Whole, Filled, Called};
 
-use counts::Counts;
-use facts::Fact;
-use running::finish::Answer;
-use running::run::Run;
+use advancing::advance::{Scratch, next_form};
+use beginning::begin::{begin, given_of};
+use beginning::tables::{fits, theory_sizes};
+use beginning::texts::Texts;
+use counts::{Counts, add, no_counts};
+use facts::{Fact, append_if, zero_behind};
+use kernel::tables::{Counts as Held, Tables};
+use questions::{Question, Refused};
+use running::finish::{Refusal, Report, finish};
+use running::stopped::{Stopped, Text};
+use state::board::{Board, Given};
+use terms::store::{Mark, Store};
 
-// One form of the proof, the record of the fact that it stores, and what it counts.
-fn turn(
-    theory: &[u8],
-    goals: &[u8],
-    proof: &[u8],
-    s: Run,
-    sorts: &[u32],
-    symbols: &[u32],
-    inputs: &[u32],
-    rules: &[u32],
-    rulevars: &[u32],
-    patterns: &[u32],
-    vars: &mut [u32],
-    index: &mut [u32],
-    words: &mut [u32],
-    defs: &mut [u32],
-    rows: &mut [u32],
-    lists: &mut [u32],
-    kept: &mut [u32],
-    feet: &mut [u64],
-    cells: &mut [u32],
-    ids: &mut [u32],
-    memo: &mut [u32],
+// The forms of the proof, one after the other: how many there are. Their facts come into the records, what they count is added up.
+fn prove(
+    given: &Given<'_>,
+    board: &mut Board<'_>,
+    store: &mut Store<'_>,
+    scratch: &mut Scratch<'_>,
     facts: &mut [Fact],
     counts: &mut Counts,
-) -> Run
-    requires { Between theory.now goals.now proof.now
-        (theory_lists sorts.now symbols.now inputs.now rules.now rulevars.now patterns.now)
-        (working vars.old index.old words.old defs.old rows.old lists.old)
-        kept.old feet.old cells.old ids.old memo.old s facts.old counts.old × (s.going ≡ true) }
-    ensures { Turned theory.now goals.now proof.now
-        (theory_lists sorts.now symbols.now inputs.now rules.now rulevars.now patterns.now)
-        (working vars.old index.old words.old defs.old rows.old lists.old)
-        (working vars.new index.new words.new defs.new rows.new lists.new)
-        kept.new feet.new cells.new ids.new memo.new s result facts.old facts.new counts.new }
+) -> Result<usize, Stopped>
+    requires kept { Kept given.now board.old store.old 0 0 facts.old counts.old }
+    requires idle { IdleIn scratch.old }
+    ensures same_tables { SameBoard board.old board.new × SameTables store.old store.new × SameScratch scratch.old scratch.new }
+    ensures ran { RanIn given.now board.new store.new result facts.new counts.new }
+    ensures facts_behind { drop FACTS facts.new ≡ drop FACTS facts.old }
+    ensures idle_again { IdleIn scratch.new }
 {
-    let o = advancing::form::form(
-        theory, goals, proof, s, sorts, symbols, inputs, rules, rulevars, patterns, vars, index,
-        words, defs, rows, lists, kept, feet, cells, ids, memo,
-    );
-    facts::append_if(
-        facts,
-        advancing::advance::stored_of(o),
-        running::run::index_of(s),
-        advancing::advance::fact_of(o),
-    );
-    counts::add(counts, advancing::advance::more_of(o));
-    advancing::advance::next_of(o)
-}
-
-// All forms that are left.
-fn run(
-    theory: &[u8],
-    goals: &[u8],
-    proof: &[u8],
-    s: Run,
-    sorts: &[u32],
-    symbols: &[u32],
-    inputs: &[u32],
-    rules: &[u32],
-    rulevars: &[u32],
-    patterns: &[u32],
-    vars: &mut [u32],
-    index: &mut [u32],
-    words: &mut [u32],
-    defs: &mut [u32],
-    rows: &mut [u32],
-    lists: &mut [u32],
-    kept: &mut [u32],
-    feet: &mut [u64],
-    cells: &mut [u32],
-    ids: &mut [u32],
-    memo: &mut [u32],
-    facts: &mut [Fact],
-    counts: &mut Counts,
-) -> Run
-    requires { Kept theory.now goals.now proof.now
-        (theory_lists sorts.now symbols.now inputs.now rules.now rulevars.now patterns.now)
-        (working vars.old index.old words.old defs.old rows.old lists.old)
-        kept.old feet.old cells.old ids.old memo.old s facts.old counts.old }
-    ensures { Ran theory.now goals.now proof.now
-        (theory_lists sorts.now symbols.now inputs.now rules.now rulevars.now patterns.now)
-        (working vars.old index.old words.old defs.old rows.old lists.old)
-        (working vars.new index.new words.new defs.new rows.new lists.new)
-        kept.new feet.new cells.new ids.new memo.new s result facts.old facts.new counts.new }
-{
-    let mut st = s;
-    // no count: until the proof ends or is refused
-    while running::run::is_going(st) {
-        let next = turn(
-            theory, goals, proof, st, sorts, symbols, inputs, rules, rulevars, patterns, vars,
-            index, words, defs, rows, lists, kept, feet, cells, ids, memo, facts, counts,
-        );
-        st = next;
+    let mut at = 0;
+    let mut forms = 0;
+    // from form to form, which is no count
+    loop {
+        let n = board.n.facts;
+        let step = match next_form(given, board, store, scratch, at) {
+            Ok(Some(step)) => step,
+            Ok(None) => return Ok(forms),
+            Err(question) => {
+                let refused = Refused {
+                    question,
+                    form: forms,
+                };
+                return Err(Stopped {
+                    text: Text::Proof,
+                    refused,
+                });
+            }
+        };
+        append_if(facts, n, step.fact);
+        add(counts, step.counts);
+        forms += 1;
+        at = step.end;
     }
-    st
 }
 
-// The whole check, where the scratch of the forms is lent too.
-fn check_with(
-    theory: &[u8],
-    goals: &[u8],
-    proof: &[u8],
+// The beginning, and the forms of the proof.
+fn run(
+    texts: &Texts<'_>,
+    tables: &mut Tables<'_>,
+    board: &mut Board<'_>,
+    store: &mut Store<'_>,
+    scratch: &mut Scratch<'_>,
+    facts: &mut [Fact],
+    counts: &mut Counts,
+) -> Result<usize, Stopped>
+    requires opening { Opening (lists_of tables.old) (tables_of board.old store.old) scratch.old.cells.now }
+    requires idle { IdleIn scratch.old }
+    requires facts_len { (FACTS ≤ length facts.old) × (counts.old ≡ none) }
+    ensures same_tables { SameTheory tables.old tables.new × SameBoard board.old board.new × SameTables store.old store.new × SameScratch scratch.old scratch.new }
+    ensures ran { Ran texts.now.theory.now texts.now.goals.now texts.now.proof.now (lists_of tables.new) (tables_of board.new store.new) board.new.n store.new.mark result facts.new counts.new }
+    ensures facts_behind { drop FACTS facts.new ≡ drop FACTS facts.old }
+{
+    let cells = &mut *scratch.cells;
+    begin(texts, tables, board, store, cells)?;
+    let given = given_of(texts.theory, texts.goals, texts.proof, tables);
+    prove(&given, board, store, scratch, facts, counts)
+}
+
+// The check over tables of their named lengths.
+fn check_exact(
+    texts: &Texts<'_>,
+    tables: &mut Tables<'_>,
+    board: &mut Board<'_>,
+    store: &mut Store<'_>,
+    scratch: &mut Scratch<'_>,
+    facts: &mut [Fact],
+    missing: &mut [u32],
+) -> Result<Report, Refusal>
+    requires opening { Opening (lists_of tables.old) (tables_of board.old store.old) scratch.old.cells.now }
+    requires idle { IdleIn scratch.old }
+    requires facts_len { (FACTS ≤ length facts.old) × (length missing.old ≡ GOALS) }
+    ensures same_theory { SameTheory tables.old tables.new }
+    ensures same_board { SameBoard board.old board.new }
+    ensures same_store { SameTables store.old store.new }
+    ensures same_scratch { SameScratch scratch.old scratch.new }
+    ensures whole { Whole texts.now.theory.now texts.now.goals.now texts.now.proof.now (lists_of tables.new) (tables_of board.new store.new) missing.new facts.old facts.new result }
+{
+    let mut counts = no_counts();
+    let outcome = run(texts, tables, board, store, scratch, facts, &mut counts);
+    let answer = finish(outcome, counts, board, store, missing);
+    zero_behind(facts, board.n.facts, rules::FACTS);
+    answer
+}
+
+// The same in tables of the theory of their named lengths, and others that may be longer. These stand one by one since C lends them so.
+fn check_long(
+    texts: &Texts<'_>,
+    tables: &mut Tables<'_>,
+    vars: &mut [u32],
+    index: &mut [u32],
+    words: &mut [u32],
+    defs: &mut [u32],
+    rows: &mut [u32],
+    facts: &mut [Fact],
+    lists: &mut [u32],
+    missing: &mut [u32],
+) -> Result<Report, Refusal>
+    requires exact { Exact (lists_of tables.old) }
+    requires long { LongWorking (working vars.old index.old words.old defs.old rows.old lists.old) × (GOALS ≤ length missing.old) × (FACTS ≤ length facts.old) }
+    ensures same_tables { SameTheory tables.old tables.new }
+    ensures filled { Filled texts.now.theory.now texts.now.goals.now texts.now.proof.now (lists_of tables.new)
+        (working vars.old index.old words.old defs.old rows.old lists.old) (working vars.new index.new words.new defs.new rows.new lists.new)
+        missing.old missing.new facts.old facts.new result }
+{
+    let mut kept = [0u32; 6 * rules::FACTS];
+    let mut feet = [0u64; 4 * rules::FACTS];
+    let mut cells = [0u32; rules::LENGTH];
+    let mut ids = [0u32; induction::induct::IDS];
+    let mut memo = [0u32; rules::TERMS];
+    let (vars, _) = vars.split_at_mut(4 * rules::VARIABLES);
+    let (index, _) = index.split_at_mut(4 * rules::TERMS);
+    let (words, _) = words.split_at_mut(rules::WORDS);
+    let (defs, _) = defs.split_at_mut(3 * rules::DEFS);
+    let (rows, _) = rows.split_at_mut(6 * rules::GOALS);
+    let (lists, _) = lists.split_at_mut(rules::ENTRIES);
+    let (missing, _) = missing.split_at_mut(rules::GOALS);
+    let mut board = Board {
+        vars,
+        defs,
+        rows,
+        facts: &mut kept,
+        footings: &mut feet,
+        lists,
+        n: theory_sizes(Held::NONE),
+    };
+    let mut store = Store {
+        index,
+        words,
+        mark: Mark { terms: 0, words: 0 },
+    };
+    let mut scratch = Scratch {
+        cells: &mut cells,
+        ids: &mut ids,
+        memo: &mut memo,
+    };
+    check_exact(
+        texts,
+        tables,
+        &mut board,
+        &mut store,
+        &mut scratch,
+        facts,
+        missing,
+    )
+}
+
+// The same in tables that are all long enough. They stand one by one since C lends them so; the texts are a struct already, since beside one that is made
+// here the check loses what becomes of the parts of slices that another struct is made of.
+fn check_fit(
+    texts: &Texts<'_>,
     sorts: &mut [u32],
     symbols: &mut [u32],
     inputs: &mut [u32],
@@ -131,64 +198,47 @@ fn check_with(
     words: &mut [u32],
     defs: &mut [u32],
     rows: &mut [u32],
+    facts: &mut [Fact],
     lists: &mut [u32],
     missing: &mut [u32],
-    facts: &mut [Fact],
-    kept: &mut [u32],
-    feet: &mut [u64],
-    cells: &mut [u32],
-    ids: &mut [u32],
-    memo: &mut [u32],
-) -> Answer
-    requires { Blank kept.old feet.old cells.old ids.old memo.old }
-    ensures { Call theory.now goals.now proof.now
-        (tables_of
-        (theory_lists sorts.old symbols.old inputs.old rules.old rulevars.old patterns.old)
-        (working vars.old index.old words.old defs.old rows.old lists.old)
-        missing.old facts.old)
-        (tables_of (theory_lists sorts.new symbols.new inputs.new rules.new rulevars.new patterns.new)
-        (working vars.new index.new words.new defs.new rows.new lists.new)
-        missing.new facts.new)
-        (answer_of result) × (drop FACTS facts.new ≡ drop FACTS facts.old) }
+) -> Result<Report, Refusal>
+    requires { AllLong (length facts.old) (theory_lists sorts.old symbols.old inputs.old rules.old rulevars.old patterns.old) (working vars.old index.old words.old defs.old rows.old lists.old) missing.old }
+    ensures { Called texts.now.theory.now texts.now.goals.now texts.now.proof.now
+        (theory_lists sorts.old symbols.old inputs.old rules.old rulevars.old patterns.old) (working vars.old index.old words.old defs.old rows.old lists.old) missing.old facts.old
+        (theory_lists sorts.new symbols.new inputs.new rules.new rulevars.new patterns.new) (working vars.new index.new words.new defs.new rows.new lists.new) missing.new facts.new
+        result }
 {
-    let k = facts.len();
-    let s = beginning::begin::begin(
-        theory, goals, proof, sorts, symbols, inputs, rules, rulevars, patterns, vars, index,
-        words, defs, rows, lists, missing, kept, feet, cells, k,
-    );
-    let mut counts = counts::no_counts();
-    let e = run(
-        theory,
-        goals,
-        proof,
-        s,
+    let (sorts, _) = sorts.split_at_mut(2 * rules::SORTS);
+    let (symbols, _) = symbols.split_at_mut(4 * rules::SYMBOLS);
+    let (inputs, _) = inputs.split_at_mut(rules::ARGUMENTS * rules::SYMBOLS);
+    let (rules, _) = rules.split_at_mut(6 * rules::RULES);
+    let (rulevars, _) = rulevars.split_at_mut(3 * rules::RULEVARS * rules::RULES);
+    let (patterns, _) = patterns.split_at_mut(rules::PATTERNS);
+    let mut tables = Tables {
         sorts,
         symbols,
         inputs,
         rules,
-        rulevars,
+        vars: rulevars,
         patterns,
+        held: Held::NONE,
+    };
+    check_long(
+        texts,
+        &mut tables,
         vars,
         index,
         words,
         defs,
         rows,
-        lists,
-        kept,
-        feet,
-        cells,
-        ids,
-        memo,
         facts,
-        &mut counts,
-    );
-    let r = running::finish::end(e, counts, index, words, rows, missing);
-    facts::zero_behind(facts, running::run::index_of(e), running::run::room_of(e));
-    r
+        lists,
+        missing,
+    )
 }
 
 // The whole check. The three texts; tables of the theory; variables, the store, abbreviations, goals; facts; entries of lists; the list of question 53.
-// Nothing is asked of them.
+// Nothing is asked of them. They stand one by one since C lends them so; where one is too short, nothing is written.
 pub fn check(
     theory: &[u8],
     goals: &[u8],
@@ -207,24 +257,46 @@ pub fn check(
     facts: &mut [Fact],
     lists: &mut [u32],
     missing: &mut [u32],
-) -> Answer
+) -> Result<Report, Refusal>
     ensures { Call theory.now goals.now proof.now
-        (tables_of
+        (all_tables
         (theory_lists sorts.old symbols.old inputs.old rules.old rulevars.old patterns.old)
         (working vars.old index.old words.old defs.old rows.old lists.old)
         missing.old facts.old)
-        (tables_of (theory_lists sorts.new symbols.new inputs.new rules.new rulevars.new patterns.new)
+        (all_tables (theory_lists sorts.new symbols.new inputs.new rules.new rulevars.new patterns.new)
         (working vars.new index.new words.new defs.new rows.new lists.new)
         missing.new facts.new) (answer_of result) × (drop FACTS facts.new ≡ drop FACTS facts.old) }
 {
-    let mut kept = [0u32; 6 * rules::FACTS];
-    let mut feet = [0u64; 4 * rules::FACTS];
-    let mut cells = [0u32; rules::LENGTH];
-    let mut ids = [0u32; induction::induct::IDS];
-    let mut memo = [0u32; rules::TERMS];
-    check_with(
-        theory, goals, proof, sorts, symbols, inputs, rules, rulevars, patterns, vars, index,
-        words, defs, rows, lists, missing, facts, &mut kept, &mut feet, &mut cells, &mut ids,
-        &mut memo,
+    if !fits(&[
+        sorts.len(),
+        symbols.len(),
+        inputs.len(),
+        rules.len(),
+        rulevars.len(),
+        patterns.len(),
+        vars.len(),
+        index.len(),
+        words.len(),
+        defs.len(),
+        rows.len(),
+        lists.len(),
+        missing.len(),
+        facts.len(),
+    ]) {
+        return Err(Refusal {
+            number: Question::Tables.number(),
+            text: 0,
+            form: 0,
+            detail: 0,
+        });
+    }
+    let texts = Texts {
+        theory,
+        goals,
+        proof,
+    };
+    check_fit(
+        &texts, sorts, symbols, inputs, rules, rulevars, patterns, vars, index, words, defs, rows,
+        facts, lists, missing,
     )
 }

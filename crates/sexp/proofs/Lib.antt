@@ -10,3 +10,4 @@ pub mod Turns
 pub mod Lookings
 pub mod IndexLaws
 pub mod TagLaws
+pub mod Firsts

@@ -1,9 +1,15 @@
 -- What the next item is to a list and the place that was come to. Assumes nothing.
-use Rattle.std.specs.Prelude.{◌≡◌, List, ℕ, ◌-◌, ◌%◌, ◌≤◌, ◌<◌, Bool, true, false, eqb, length, get_or, take, drop, Option, Some, None}
-use Rattle.std.proofs.Common.{arith, ◌∙◌}
+use Rattle.std.specs.Prelude.{◌≡◌, refl, List, ℕ, ◌+◌, ◌-◌, ◌%◌, ◌≤◌, ◌<◌, Bool, true, false, eqb, length, get_or, take, drop, Option, Some, None}
+use Rattle.std.proofs.Common.{arith, ap, ◌∙◌, length-drop, drop-drop, get_or-drop, take_all}
 use denote.Ref.{Bor}
+use Rattle.rules.specs.Sexp.{Sexp, Sexps, atom, list, nil, cons, item}
+use Rattle.sexp.specs.Never.{never}
+use Rattle.sexp.specs.ItemLaws.{at_room, item_here, some_cells}
+use Rattle.sexp.specs.WalkLaws.{walk_start, walk_rest, past_atom}
 use Rattle.sexp.specs.declared.items.Each.{Each}
-use Rattle.sexp.specs.Items.{item_at, behind, by_parity}
+use Rattle.sexp.specs.Items.{Holds, item_at, item_of, behind, by_parity}
+use Rattle.sexp.specs.declared.items.Item.{Item}
+use Rattle.sexp.specs.declared.items.Item.TheVariants.{Atom, List as Part}
 
 -- the cells from the item on; then the place behind it
 pub record Step (s : Each) (item : Bor (List ℕ)) (t : Each) : Type 0 where
@@ -45,3 +51,55 @@ here e w = record { inside = rw e at w.inside; is = rw e at w.is; same = w.same 
 -- behind the last one
 pub over : {cells : List ℕ} {s t : Each} → s.cells.now ≡ cells → Over s t → length cells ≤ s.at
 over e w = rw e at w.over
+
+-- An item by its own cells ---------------------------------------------------------------------------------------------------------------
+
+-- the item at the front of cells that begin at a place of a list, as an item of the list
+abbrev pub moved : ℕ → Item → Item
+moved at (Atom p) = Atom p
+moved at (Part a b) = Part (at + a) (at + b)
+
+module _ (words item : List ℕ) (at : ℕ) (e : item ≡ take (length words - at) (drop at words)) where
+  rest_is : item ≡ drop at words
+  rest_is = e ∙ take_all (length words - at) (drop at words) (omega (arith, length-drop at words))
+
+  pub item_long : length item ≡ length words - at
+  item_long = ap length rest_is ∙ length-drop at words
+
+  -- what `item_at` answers of its cells, said of the list
+  pub item_moved : item_at words at ≡ moved at (item_at item 0)
+  unfolding item_at
+  item_moved =
+      let first : get_or item 0 0 ≡ get_or words at 0 = ap (λ (xs : List ℕ). get_or xs 0 0) rest_is ∙ get_or-drop at words 0 0 ∙ ap (λ k. get_or words k 0) (omega arith) in
+      rw first (same (eqb (get_or words at 0 % 2) 1) (get_or words at 0))
+    where
+      same : (b : Bool) (cell : ℕ) → by_parity b at cell ≡ moved at (by_parity b 0 cell)
+      same true cell = refl
+      same false cell = ap (λ n. Part (at + 1) n) (omega arith)
+
+  pub part_moved : (a b : ℕ) → take (b - a) (drop a item) ≡ take (at + b - (at + a)) (drop (at + a) words)
+  part_moved a b =
+      let n : at + b - (at + a) ≡ b - a = omega arith in
+      rw (rest_is, n) (ap (take (b - a)) (drop-drop a at words))
+
+-- The first item -------------------------------------------------------------------------------------------------------------------------
+
+-- the bytes of an atom; none where it is a list
+abbrev pub HeadIs : Sexp → Option (Bor (List ℕ)) → Type 0
+HeadIs x (Some name) = (p : ℕ) × (x ≡ atom p name.now)
+HeadIs x None = (xs : Sexps) × (x ≡ list xs)
+
+-- an atom in front, and the items behind it in the cells behind the first
+pub record NameFirst (text cells : List ℕ) (xs : Sexps) (p : ℕ) (name : List ℕ) : Type 0 where
+  pub others : Sexps
+  pub is : xs ≡ cons (atom p name) others
+  pub some : 0 < length cells
+  pub rest : Holds text (take (length cells - 1) (drop 1 cells)) others
+
+pub name_first : {text cells : List ℕ} (xs : Sexps) {p : ℕ} {name : List ℕ} → Holds text cells xs → item xs 0 ≡ atom p name → NameFirst text cells xs p name
+unfolding item
+name_first nil h e = never cc
+name_first (cons x xs) h e =
+    let w = walk_start h in
+    let i = item_here x w.here ∙ ap (item_of 0) e in
+    record { others = xs; is = ap (λ z. cons z xs) e; some = omega (arith, at_room w.here, some_cells x); rest = walk_rest (past_atom w refl i) }

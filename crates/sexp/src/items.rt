@@ -2,7 +2,10 @@
 ghost use Rattle.std.specs.Prelude.{◌≡◌, ◌<◌, length};
 ghost use Rattle.rules.specs.Sexp.{Sexps, count, item};
 ghost use Rattle.sexp.specs.Encode.{encodes};
-ghost use Rattle.sexp.specs.Items.{Items, Reaches, item_at, item_of, behind, place};
+ghost use Rattle.sexp.specs.Items.{Held, Holds, Items, Reaches, item_at, item_of, behind, place};
+ghost use Rattle.sexp.specs.Each.{HeadIs};
+
+use crate::lex::atom_end;
 
 // An atom by its place in the text, or a list by where its items' cells begin and end.
 #[derive(Clone, Copy, Debug, PartialEq, Eq)]
@@ -68,6 +71,21 @@ impl<'a> Iterator for Each<'a> {
         self.at = after(cells, at);
         Some(&cells[at..])
     }
+}
+
+// The bytes of the atom that the items begin with.
+pub fn head<'a>(text: &'a [u8], words: &[u32]) -> Option<&'a [u8]>
+    requires { Held text.now words.now }
+    ensures { (xs : Sexps) → Holds text.now words.now xs → HeadIs (item xs 0) result }
+{
+    if words.is_empty() {
+        return None;
+    }
+    let Item::Atom(start) = item_at(words, 0) else {
+        return None;
+    };
+    let end = atom_end(text, start);
+    Some(&text[start..end])
 }
 
 // The number of items.

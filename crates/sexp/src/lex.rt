@@ -1,8 +1,9 @@
 // The questions put to a text before it is read, and what stands at a place of it. How wide the white space at a place is, and which
 // bytes are allowed, is said here alone.
-ghost use Rattle.std.specs.Prelude.{◌≡◌, true, ◌+◌, ◌≤◌, ◌<◌, leb, length, get_or, drop};
+ghost use Rattle.std.specs.Prelude.{◌≡◌, true, ℕ, ◌+◌, ◌*◌, ◌≤◌, ◌<◌, leb, length, get_or, take, drop};
+ghost use Rattle.std.specs.Fn.{FnReturnsAt};
 ghost use Rattle.rules.specs.Text.{plain, short};
-ghost use Rattle.rules.specs.Lex.{white, kind, letters};
+ghost use Rattle.rules.specs.Lex.{white, kind, letter, letters};
 ghost use Rattle.sexp.specs.Lexed.{wide, is_letter, InAtom, InComment, LineEnd, Skipped};
 
 // Question 1, of one table.
@@ -62,49 +63,44 @@ fn is_letter(text: &[u8], at: usize) -> bool
     b != b';'
 }
 
-// Whether 64 bytes from a place on are letters for sure: all lie above the brackets and white space and below 128, and none is `;`. Other
-// letters get a no, and are then looked at one by one. There is no way out of the loop, so that the machine can take many bytes at a time.
-fn block_of_letters(text: &[u8], at: usize) -> bool
-    requires { at + 64 ≤ length text.now }
-    ensures { result ≡ true → InAtom text.now at (at + 64) }
+// Whether the bytes are letters for sure: all lie above the brackets and white space and below 128, and none is `;`. Other letters get a no, and
+// are then looked at one by one. There is no way out of the loop, so that the machine can take many bytes at a time.
+fn all_letters(block: &[u8]) -> bool
+    ensures { result ≡ true → (k : ℕ) → k < length block.now → kind (get_or block.now k 0) ≡ letter }
 {
-    let mut above = true;
-    let mut below = true;
-    let mut clean = true;
-    let mut i = 0;
-    while i < 64 {
-        let b = text[at + i];
-        if b <= b')' {
-            above = false;
-        }
-        if 127 < b {
-            below = false;
-        }
-        if b == b';' {
-            clean = false;
-        }
-        i += 1;
+    let mut letters = true;
+    for b in block {
+        letters &= (b')' < *b) & (*b <= 127) & (*b != b';');
     }
-    if above {
-        if below {
-            return clean;
-        }
-    }
-    false
+    letters
 }
 
-// Behind the blocks of letters that begin at a place.
-fn skip_letters(text: &[u8], from: usize) -> usize
-    requires { from ≤ length text.now }
-    ensures { InAtom text.now from result }
+// Whether none of the bytes is 10; without a way out here too.
+fn within_line(block: &[u8]) -> bool
+    ensures { result ≡ true → (k : ℕ) → k < length block.now → get_or block.now k 0 ≡ 10 → ⊥ }
+{
+    let mut within = true;
+    for b in block {
+        within &= *b != 10;
+    }
+    within
+}
+
+// Behind the blocks of 64 bytes that begin at a place and pass the test, one after the other.
+fn skip_blocks<F: Fn(&[u8]) -> bool>(text: &[u8], from: usize, passes: F) -> usize
+    requires callable { F.IsAlwaysCallable passes }
+    requires start { from ≤ length text.now }
+    ensures { (n : ℕ) × (result ≡ from + 64 * n) × (result ≤ length text.now)
+        × ((k : ℕ) → k < n → FnReturnsAt F.Fn passes (take 64 (drop (from + 64 * k) text.now)) true) }
 {
     let mut at = from;
+    // block after block, up to one that does not pass
     while text.len() - at >= 64 {
-        if block_of_letters(text, at) {
-            at += 64;
-        } else {
+        let end = at + 64;
+        if !passes(&text[at..end]) {
             return at;
         }
+        at = end;
     }
     at
 }
@@ -115,6 +111,7 @@ pub fn atom_end(text: &[u8], start: usize) -> usize
     ensures { result ≡ start + length (letters (drop start text.now)) }
 {
     let mut at = start;
+    // up to the first byte that is no letter, in steps of a byte or of blocks
     while at < text.len() {
         if is_letter(text, at) {
             at += 1;
@@ -122,39 +119,7 @@ pub fn atom_end(text: &[u8], start: usize) -> usize
             return at;
         }
         if at % 64 == 0 {
-            at = skip_letters(text, at);
-        }
-    }
-    at
-}
-
-// Whether none of 64 bytes from a place on is 10; without a way out here too.
-fn block_of_line(text: &[u8], at: usize) -> bool
-    requires { at + 64 ≤ length text.now }
-    ensures { result ≡ true → InComment text.now at (at + 64) }
-{
-    let mut clean = true;
-    let mut i = 0;
-    while i < 64 {
-        if text[at + i] == 10 {
-            clean = false;
-        }
-        i += 1;
-    }
-    clean
-}
-
-// Behind the blocks without a byte 10 that begin at a place.
-fn skip_line(text: &[u8], from: usize) -> usize
-    requires { from ≤ length text.now }
-    ensures { InComment text.now from result }
-{
-    let mut at = from;
-    while text.len() - at >= 64 {
-        if block_of_line(text, at) {
-            at += 64;
-        } else {
-            return at;
+            at = skip_blocks(text, at, all_letters);
         }
     }
     at
@@ -166,13 +131,14 @@ fn line_end(text: &[u8], from: usize) -> usize
     ensures { LineEnd text.now from result }
 {
     let mut at = from;
+    // up to the first byte 10, in steps of a byte or of blocks
     while at < text.len() {
         if text[at] == 10 {
             return at;
         }
         at += 1;
         if at % 64 == 0 {
-            at = skip_line(text, at);
+            at = skip_blocks(text, at, within_line);
         }
     }
     at

@@ -13,9 +13,7 @@ pub fn same(s: &[u8], t: &[u8]) -> bool
     if s.len() != t.len() {
         return false;
     }
-    let mut at = s.len();
-    while 0 < at {
-        at -= 1;
+    for at in (0..s.len()).rev() {
         if s[at] != t[at] {
             return false;
         }

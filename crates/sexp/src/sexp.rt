@@ -53,6 +53,7 @@ fn read_list(text: &[u8], from: usize, words: &mut [u32]) -> Result<Form, Questi
     let mut depth = 1;
     // the cell of the innermost open list
     let mut open = 0;
+    // from bracket to bracket or atom, which is no count
     loop {
         at = skip(text, at);
         if at >= text.len() {
@@ -120,6 +121,7 @@ pub fn read_all(text: &[u8]) -> Result<usize, Refused>
     let mut at = 0;
     let mut depth = 0;
     let mut forms = 0;
+    // from bracket to bracket or atom, which is no count
     loop {
         at = skip(text, at);
         if at >= text.len() {

@@ -10,7 +10,8 @@ use Rattle.rules.specs.StateTables.{Tables, Long, Checked, too_short, answered}
 use Rattle.rules.specs.Laws.Row.{length_rows}
 use Rattle.kernel.specs.Parsed.{TheoryLists}
 use Rattle.facts.specs.Table.{blank}
-use Rattle.running.specs.declared.finish.Answer.{Answer as Answered}
+use Rattle.running.specs.declared.finish.Report.{Report}
+use Rattle.running.specs.declared.finish.Refusal.{Refusal}
 use Rattle.running.specs.Finished.{answer_of}
 use Rattle.running.specs.Lent.{Working, fact_row, fact_foot, fact_rows, fact_feet}
 use Rattle.running.specs.Checking.{tables_of}
@@ -28,7 +29,7 @@ blank_feet : 4 * FACTS ≤ length (fact_feet (replicate FACTS blank))
 blank_feet = omega (arith, length_rows fact_foot 4 (λ f. refl) (replicate FACTS blank), length-replicate FACTS blank)
 
 -- T, W, M as long as named, whatever stands in them
-pub answers_named : {theory goals proof : List ℕ} {T U : TheoryLists} {W Z : Working} {M N rows rows' feet feet' : List ℕ} {r : Answered} →
+pub answers_named : {theory goals proof : List ℕ} {T U : TheoryLists} {W Z : Working} {M N rows rows' feet feet' : List ℕ} {r : Result Report Refusal} →
     (2 * SORTS ≤ length T.sorts) → (4 * SYMBOLS ≤ length T.symbols) → (ARGUMENTS * SYMBOLS ≤ length T.inputs) → (6 * RULES ≤ length T.rules) →
     (3 * RULEVARS * RULES ≤ length T.rule_vars) → (PATTERNS ≤ length T.patterns) → (4 * VARIABLES ≤ length W.vars) → (4 * TERMS ≤ length W.index) →
     (WORDS ≤ length W.words) → (3 * DEFS ≤ length W.defs) → (6 * GOALS ≤ length W.goals) → (ENTRIES ≤ length W.lists) → (GOALS ≤ length M) →

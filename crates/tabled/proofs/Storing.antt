@@ -10,7 +10,8 @@ use Rattle.rules.specs.Limits.{FACTS}
 use Rattle.kernel.specs.Parsed.{TheoryLists}
 use Rattle.facts.specs.declared.Fact.{Fact}
 use Rattle.facts.specs.Table.{blank}
-use Rattle.running.specs.declared.finish.Answer.{Answer}
+use Rattle.running.specs.declared.finish.Report.{Report}
+use Rattle.running.specs.declared.finish.Refusal.{Refusal}
 use Rattle.running.specs.Lent.{Working, fact_row, fact_foot, fact_rows, fact_feet}
 use Rattle.running.specs.Finished.{answer_of}
 use Rattle.running.specs.ReadBack.{Call}
@@ -54,7 +55,7 @@ module _ {fs : List Fact} {rows feet : List ℕ} where
 
 -- the table that is lent is made of blank records
 pub tabled : {theory goals proof : List ℕ} {T U : TheoryLists} {W Z : Working} {M N : List ℕ} (f : Fact) (fs : List Fact) (rows rows' feet feet' : List ℕ)
-    {r : Answer} → f ≡ blank → length fs ≡ FACTS →
+    {r : Result Report Refusal} → f ≡ blank → length fs ≡ FACTS →
     Call theory goals proof (tables_of T W M (replicate FACTS f)) (tables_of U Z N fs) (answer_of r) →
     rows' ≡ fact_rows fs ++ drop (6 * length fs) rows → feet' ≡ fact_feet fs ++ drop (4 * length fs) feet →
     Tabled theory goals proof T U W Z M N rows rows' feet feet' r

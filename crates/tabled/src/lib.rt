@@ -13,7 +13,7 @@ mod tables;
 pub mod told;
 
 use facts::{Fact, blank_fact};
-use running::finish::Answer;
+use running::finish::{Refusal, Report};
 
 // The row of fact i.
 fn put_row(rows: &mut [u32], i: usize, f: Fact)
@@ -74,7 +74,7 @@ pub fn check_rows(
     missing: &mut [u32],
     facts: &mut [u32],
     footings: &mut [u64],
-) -> Answer
+) -> Result<Report, Refusal>
     requires { (6 * FACTS ≤ length facts.old) × (4 * FACTS ≤ length footings.old) }
     ensures { Tabled theory.now goals.now proof.now
         (theory_lists sorts.old symbols.old inputs.old rules.old rulevars.old patterns.old)

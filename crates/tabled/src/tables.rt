@@ -5,7 +5,7 @@ ghost use Rattle.running.specs.Finished.{answer_of};
 
 use crate::check_rows;
 use printing::checked::Checked;
-use running::finish::Answer;
+use running::finish::{Refusal, Report};
 
 #[derive(Drop)]
 pub(crate) struct Tables {
@@ -48,7 +48,12 @@ impl Tables {
     }
 
     // The answer is the definition's, whatever stood in the tables.
-    pub(crate) fn check(&mut self, theory: &[u8], goals: &[u8], proof: &[u8]) -> Answer
+    pub(crate) fn check(
+        &mut self,
+        theory: &[u8],
+        goals: &[u8],
+        proof: &[u8],
+    ) -> Result<Report, Refusal>
         ensures { answer_of result ≡ (check theory.now goals.now proof.now).answer }
     {
         check_rows(
@@ -78,7 +83,7 @@ impl Tables {
         theory: &'a [u8],
         goals: &'a [u8],
         proof: &'a [u8],
-        answer: Answer,
+        answer: Result<Report, Refusal>,
     ) -> Checked<'a> {
         Checked {
             theory,

@@ -1,166 +1,178 @@
--- The arms of `goal_items` and `form_items`: what each form answers where the items have its tag, by what the function that takes it ensures.
--- Assumes nothing.
-use mathlib.Core.Path.{◌≡◌, refl}
-use Rattle.std.specs.Prelude.{Some as some}
+-- The arms of `goal_items` and `form_items`: what they answer, from what the form of the tag answers. Assumes nothing.
+use mathlib.Core.Path.{◌≡◌, refl, sym, ap, ◌∙◌, subst}
 use mathlib.Core.List.{List}
-use Prim.Native.Nat.{ℕ, ◌≤◌}
+use Prim.Native.Nat.{ℕ, ◌+◌, ◌≤◌}
 use native.Mathlib.Omega.{arith}
+use Rattle.std.specs.Prelude.{Option, Some as some, None as nothing, Result, Ok, Err}
+use Rattle.rules.specs.Out.{Out, refuse, Act}
 use Rattle.rules.specs.Sexp.{Sexps, count}
-use Rattle.rules.specs.State.{State}
-use Rattle.rules.specs.Tags.{Tag, a_var, a_def, an_invert, a_result, a_variable, a_goal, a_goal_with, proof_tag, goal_form}
-use Rattle.rules.specs.Forms.{add_var, add_def, goal, result, perform, some_instances}
-use Rattle.kernel.specs.Parsed.{TheoryLists}
-use Rattle.terms.specs.declared.store.Mark.{Mark}
-use Rattle.state.specs.declared.sizes.Sizes.{Sizes}
-use Rattle.state.specs.Held.{text_of, names, records}
-use Rattle.state.specs.Stands.{Texts, texts, Board, board}
-use Rattle.std.specs.Prelude.{Result}
+use Rattle.rules.specs.State.{State, Counts}
+use Rattle.rules.specs.Tags.{Tag, a_var, a_def, a_result, a_variable, a_goal, a_goal_with, GoalForm, proof_tag, goal_form}
+use Rattle.rules.specs.Forms.{plus, add_var, add_def, add_invert, goal, result, next, perform}
 use Rattle.questions.specs.declared.Question.{Question}
-use Rattle.forms.specs.declared.declare.Defined.{Defined}
-use Rattle.forms.specs.declared.goals.Aimed.{Aimed}
-use Rattle.forms.specs.declared.hypotheses.Assumed.{Assumed}
-use Rattle.entering.specs.declared.derive.Entered.{Entered}
-use Rattle.forms.specs.declared.results.Resulted.{Resulted}
-use Rattle.forms.specs.Halted.{ReadsForm}
-use Rattle.forms.specs.Declares.{AddsVar, VarAs, DefAs}
-use Rattle.forms.specs.Goals.{AddsGoal, AimedAs}
-use Rattle.forms.specs.Assumed.{AddsFact, AssumedAs}
-use Rattle.entering.specs.Entered.{AddsInstance, AddsDerived, EnteredAs, an_induction}
-use Rattle.forms.specs.Results.{TakesResult, ResultedAs}
-use Rattle.forms.specs.Laws.Declared.{gives_form, gives_var}
-use Rattle.forms.specs.Laws.Goals.{stands_adds}
-use Rattle.forms.specs.Laws.Assumed.{gives_fact}
-use Rattle.entering.specs.Laws.Deriving.{names_of, rules_of, records_of, stands_instance, stands_form}
-use Rattle.forms.specs.Laws.Results.{stands_result}
-use Rattle.taking.specs.declared.answers.Tried.{Tried}
+use Rattle.questions.specs.declared.Question.TheVariants.{ProofForm, GoalForm as NoGoalForm}
+use Rattle.questions.specs.Numbers.{number_of, detail_of}
+use Rattle.terms.specs.declared.store.Store.{Store}
+use Rattle.state.specs.declared.board.Given.{Given}
+use Rattle.state.specs.declared.board.Board.{Board}
+use Rattle.terms.specs.Table.{made}
+use Rattle.state.specs.Held.{text_of, GoalsHeld}
+use Rattle.state.specs.FactLaws.{entries_fit}
+use Rattle.counts.specs.Sum.{none}
+use Rattle.counts.specs.Counted.{counts_of}
+use Rattle.counts.specs.declared.Counts.{Counts as Counted}
+use Rattle.forms.specs.Boards.{StandsIn}
+use Rattle.forms.specs.Moved.{MovesIn, LeftIn}
+use Rattle.forms.specs.Next.{NextAs}
+use Rattle.forms.specs.Laws.Making.{makes_none}
+use Rattle.forms.specs.Laws.Nexts.{Numbers, perform_next, perform_not}
+use Rattle.forms.specs.Boards.{AddsGoalIn, OnlyVars, OnlyRows, OnlyGoals, OnlyFacts, OnlyFactsAndVars}
+use Rattle.forms.specs.Declares.{VarAs}
+use Rattle.forms.specs.Goals.{AimedAs}
+use Rattle.forms.specs.Laws.Declared.{var_taken, var_left}
+use Rattle.forms.specs.Laws.Goals.{goal_taken, goal_left}
+use Rattle.entering.specs.declared.derive.Way.{Way}
+use Rattle.entering.specs.Entered.{EnteredAs, AddedBy, way_act}
+use Rattle.entering.specs.Inverted.{InversionAs, InvertedBy}
+use Rattle.entering.specs.Laws.Deriving.{least_of, adds_entered, entered_taken, entered_left}
+use Rattle.entering.specs.Laws.Inverting.{stands_inversion, inverted_taken, inverted_left}
 use Rattle.taking.specs.Tagged.{tagged, chosen}
-use Rattle.taking.specs.Tried.{Items, GoalItems, TriedAs, declared_tried, defined_tried, aimed_tried, assumed_tried, entered_tried, resulted_tried}
-use Rattle.taking.proofs.Heads.{least_of, form_many, goal_many}
-use Rattle.taking.proofs.Tries.{chosen_tried, var_tried, def_tried, hyp_tried, entered_tried_lem, result_tried, goal_tried}
+use Rattle.taking.specs.Tried.{ItemsIn, GoalItemsIn, TriedIn, GoalTriedIn}
 
--- The definition by the tag ----------------------------------------------------------------------------------------------------------
+-- Counts ---------------------------------------------------------------------------------------------------------------------------
 
-goal_var : (xs : Sexps) (S : State) → goal a_variable xs S ≡ add_var 2 xs S
-unfolding goal
-goal_var xs S = refl
+-- nothing more
+plus_none : (c : Counts) → plus c (counts_of none) ≡ c
+unfolding plus
+plus_none c =
+    let e : c.hypotheses + 0 ≡ c.hypotheses = omega arith in
+    let f : c.inductions + 0 ≡ c.inductions = omega arith in
+    let g : c.inversions + 0 ≡ c.inversions = omega arith in
+    let h : c.instances + 0 ≡ c.instances = omega arith in
+    λ i. record { hypotheses = e i; inductions = f i; inversions = g i; instances = h i }
 
-perform_var : (xs : Sexps) (S : State) → perform a_var xs S ≡ add_var 3 xs S
-unfolding perform
-perform_var xs S = refl
+pub uncounted : (g : Given) (b : Board) (s : Store) {K : Out State (Unit {0})} (c : Counts) → MovesIn g b s K c → MovesIn g b s K (plus c (counts_of none))
+uncounted g b s c w = record { after = w.after; is = w.is; stands = w.stands; counted = w.counted ∙ sym (plus_none c) }
 
-perform_def : (xs : Sexps) (S : State) → perform a_def xs S ≡ add_def xs S
-unfolding perform
-perform_def xs S = refl
+-- Nothing is done --------------------------------------------------------------------------------------------------------------------
 
-perform_result : (xs : Sexps) (S : State) → perform a_result xs S ≡ result xs S
-unfolding perform
-perform_result xs S = refl
-
-text_goals : (goals text : List ℕ) → text_of goals text 2 ≡ goals
-unfolding text_of
-text_goals goals text = refl
-
-text_proof : (goals text : List ℕ) → text_of goals text 3 ≡ text
-unfolding text_of
-text_proof goals text = refl
+left_as_is : (g : Given) (b : Board) (s : Store) {S : State} → StandsIn g b s S → {K : Out State (Unit {0})} (q : Question) → K ≡ refuse (number_of q) (detail_of q) S → LeftIn b b s s K q
+left_as_is g b s {S} h q e = (record { until = S; is = e; makes = makes_none S h.good h.spelling.trees; rests = refl }, refl)
 
 -- Forms of the proof -----------------------------------------------------------------------------------------------------------------
 
-module _ {X : Texts} {T : TheoryLists} {B : Board} {n : Sizes} {m : Mark} {cells : List ℕ} (g : Items X T B n m cells) (t : Tried) where
-  abbrev Answers : Board → Type 0
-  Answers D = TriedAs X T B D m g.S (chosen 30 perform (tagged proof_tag g.xs) g.xs g.S) t
+module _ {g : Given} {b : Board} {s : Store} {cells : List ℕ} (i : ItemsIn g b s cells) where
+  -- what the definition answers
+  abbrev pub answered : Out State (Unit {0})
+  answered = chosen 30 perform (tagged proof_tag i.xs) i.xs i.S
 
-  pub var_arm : (vars : List ℕ) (r : Result (Unit {0}) Question) → tagged proof_tag g.xs ≡ some a_var →
-      ((k : AddsVar X.theory X.goals X.text T.sorts T.symbols B.vars n 3 cells) → VarAs X.text B.vars vars n 3 k.S (add_var 3 k.xs k.S) r) →
-      t ≡ declared_tried n m r → Answers (board vars B.index B.words B.defs B.goals B.facts B.footings B.lists)
-  var_arm vars r e a f =
-      chosen_tried (board vars B.index B.words B.defs B.goals B.facts B.footings B.lists) g.stands 30 perform g.xs a_var t e (perform_var g.xs g.S)
-      (var_tried B g.stands (add_var 3 g.xs g.S) t 3 vars r (text_proof X.goals X.text)
-      (a (gives_var g.stands {which = 3} (omega arith) g.holds (form_many g.xs a_var e))) f)
+  -- no tag
+  pub untagged : tagged proof_tag i.xs ≡ nothing → TriedIn g b b s s i.S answered (Err ProofForm)
+  untagged e = left_as_is g b s i.stands ProofForm (ap (λ z. chosen 30 perform z i.xs i.S) e)
 
-  pub def_arm : (defs J Y : List ℕ) (r : Defined) → tagged proof_tag g.xs ≡ some a_def →
-      ((k : ReadsForm (names_of X T B) n B.index B.words m cells 3) →
-      DefAs X.text B.defs defs n B.index B.words J Y m k.S (add_def k.xs k.S) r) →
-      t ≡ defined_tried n r → Answers (board B.vars J Y defs B.goals B.facts B.footings B.lists)
-  def_arm defs J Y r e a f =
-      chosen_tried (board B.vars J Y defs B.goals B.facts B.footings B.lists) g.stands 30 perform g.xs a_def t e (perform_def g.xs g.S)
-      (def_tried B g.stands (add_def g.xs g.S) t defs J Y r (a (gives_form g.stands g.holds (form_many g.xs a_def e))) f)
+  module _ {a : Tag} (e : tagged proof_tag i.xs ≡ some a) where
+    -- c, t: the tables and the store afterwards
+    pub performed : {K : Out State (Unit {0})} → perform a i.xs i.S ≡ K → (c : Board) (t : Store) (r : Result Counted Question) → TriedIn g b c s t i.S K r →
+        TriedIn g b c s t i.S answered r
+    performed k c t r w = subst (λ z. TriedIn g b c s t i.S z r) (sym (ap (λ z. chosen 30 perform z i.xs i.S) e ∙ k)) w
 
-  pub result_arm : (J Y rows : List ℕ) (r : Resulted) → tagged proof_tag g.xs ≡ some a_result →
-      ((k : TakesResult (names_of X T B) B.goals B.facts B.lists n B.index B.words m cells) →
-      ResultedAs B.goals rows n B.index B.words J Y m k.S (result k.xs k.S) r) →
-      t ≡ resulted_tried n r → Answers (board B.vars J Y B.defs rows B.facts B.footings B.lists)
-  result_arm J Y rows r e a f =
-      chosen_tried (board B.vars J Y B.defs rows B.facts B.footings B.lists) g.stands 30 perform g.xs a_result t e (perform_result g.xs g.S)
-      (result_tried B g.stands (result g.xs g.S) t J Y rows r (a (stands_result g.stands g.holds (form_many g.xs a_result e))) f)
+    module _ {f : Sexps → Act State (Unit {0})} (k : Numbers a f) where
+      -- behind the index that is next
+      pub numbered : {u : Unit {0}} → NextAs i.S (next i.xs i.S) (Ok u) → (c : Board) (t : Store) (r : Result Counted Question) →
+          TriedIn g b c s t i.S (f i.xs i.S) r → TriedIn g b c s t i.S answered r
+      numbered w c t r z = performed (perform_next k i.xs i.S w) c t r z
 
-  -- d: the form's tag
-  module _ (d : Tag) (e : tagged proof_tag g.xs ≡ some d) where
-    pub hyp_arm : (facts lists J Y : List ℕ) (r : Assumed) →
-        ((k : AddsFact (names_of X T B) B.facts B.lists n B.index B.words m cells (least_of d)) →
-        AssumedAs (records B.facts k.footings B.lists) (records facts k.footings lists) n B.index B.words J Y m k.S (perform d k.xs k.S) r) →
-        t ≡ assumed_tried n r → Answers (board B.vars J Y B.defs B.goals facts B.footings lists)
-    hyp_arm facts lists J Y r a f =
-        chosen_tried (board B.vars J Y B.defs B.goals facts B.footings lists) g.stands 30 perform g.xs d t e refl
-        (hyp_tried B g.stands (perform d g.xs g.S) t facts lists J Y r (a (gives_fact g.stands g.holds (form_many g.xs d e))) f)
+      -- behind another
+      pub misnumbered : (q : Question) → NextAs i.S (next i.xs i.S) (Err q) → TriedIn g b b s s i.S answered (Err q)
+      misnumbered q w = performed refl b s (Err q) (left_as_is g b s i.stands q (perform_not k i.xs i.S w.0))
 
-    pub step_arm : (facts footings lists J Y : List ℕ) (r : Entered) →
-        ((k : AddsInstance (names_of X T B) (rules_of X T) B.facts B.footings B.lists n B.index B.words m cells (least_of d)) →
-        EnteredAs (records_of B) (records facts footings lists) n B.index B.words J Y m k.form.S (perform d k.form.xs k.form.S) some_instances r) →
-        t ≡ entered_tried n 0 r → Answers (board B.vars J Y B.defs B.goals facts footings lists)
-    step_arm facts footings lists J Y r a f =
-        chosen_tried (board B.vars J Y B.defs B.goals facts footings lists) g.stands 30 perform g.xs d t e refl
-        (entered_tried_lem B g.stands (perform d g.xs g.S) t 0 facts footings lists J Y r (a (stands_instance g.stands g.holds (form_many g.xs d e))) f)
+-- Forms of facts ---------------------------------------------------------------------------------------------------------------------
 
-    pub apply_arm : (facts footings lists J Y : List ℕ) (r : Entered) →
-        ((k : AddsDerived (names_of X T B) B.facts B.footings B.lists n B.index B.words m cells (least_of d)) →
-        EnteredAs (records_of B) (records facts footings lists) n B.index B.words J Y m k.form.S (perform d k.form.xs k.form.S) some_instances r) →
-        t ≡ entered_tried n 0 r → Answers (board B.vars J Y B.defs B.goals facts footings lists)
-    apply_arm facts footings lists J Y r a f =
-        chosen_tried (board B.vars J Y B.defs B.goals facts footings lists) g.stands 30 perform g.xs d t e refl
-        (entered_tried_lem B g.stands (perform d g.xs g.S) t 0 facts footings lists J Y r (a (stands_form g.stands g.holds (form_many g.xs d e))) f)
+module _ {g : Given} {b : Board} {s : Store} {cells : List ℕ} (i : ItemsIn g b s cells) (c : Board) (t : Store) where
+  pub derived_tried : (w : Way) → least_of w ≤ count i.xs → (r : Result Counted Question) → OnlyFacts b c → AddedBy w g b c s t cells r →
+      TriedIn g b c s t i.S (way_act w i.xs i.S) r
+  derived_tried w l r o a = go r (adds_entered g b s i.stands i.holds w l c t r a)
+    where
+      go : (r : Result Counted Question) → EnteredAs b c s t i.S (way_act w i.xs i.S) r → TriedIn g b c s t i.S (way_act w i.xs i.S) r
+      go (Ok u) z = entered_taken g b c s t i.stands (way_act w i.xs i.S) o z
+      go (Err q) z = entered_left g b c s t i.stands (way_act w i.xs i.S) o q z
 
-    pub induct_arm : (facts footings lists J Y : List ℕ) (r : Entered) →
-        ((k : AddsDerived (names_of X T B) B.facts B.footings B.lists n B.index B.words m cells (least_of d)) →
-        EnteredAs (records_of B) (records facts footings lists) n B.index B.words J Y m k.form.S (perform d k.form.xs k.form.S) an_induction r) →
-        t ≡ entered_tried n 1 r → Answers (board B.vars J Y B.defs B.goals facts footings lists)
-    induct_arm facts footings lists J Y r a f =
-        chosen_tried (board B.vars J Y B.defs B.goals facts footings lists) g.stands 30 perform g.xs d t e refl
-        (entered_tried_lem B g.stands (perform d g.xs g.S) t 1 facts footings lists J Y r (a (stands_form g.stands g.holds (form_many g.xs d e))) f)
+  pub inverted_tried : (l : 6 ≤ count i.xs) (r : Result Counted Question) → OnlyFactsAndVars b c → InvertedBy g b c s t cells r → TriedIn g b c s t i.S (add_invert i.xs i.S) r
+  inverted_tried l r o a = go r (a (stands_inversion g b s i.stands i.bounded i.holds l))
+    where
+      go : (r : Result Counted Question) → InversionAs g b c s t i.S (add_invert i.xs i.S) r → TriedIn g b c s t i.S (add_invert i.xs i.S) r
+      go (Ok u) z = inverted_taken g b s i.stands c t (add_invert i.xs i.S) o z
+      go (Err q) z = inverted_left g b s i.stands c t (add_invert i.xs i.S) o q z
 
-  -- an inversion is tried as such; D: the tables afterwards
-  pub invert_arm : (D : Board) → tagged proof_tag g.xs ≡ some an_invert → (6 ≤ count g.xs → TriedAs X T B D m g.S (perform an_invert g.xs g.S) t) → Answers D
-  invert_arm D e a = chosen_tried D g.stands 30 perform g.xs an_invert t e refl (a (form_many g.xs an_invert e))
+-- The definition by the tag ------------------------------------------------------------------------------------------------------------
+
+pub perform_var : (xs : Sexps) (S : State) → perform a_var xs S ≡ add_var 3 xs S
+unfolding perform
+perform_var xs S = refl
+
+pub perform_def : (xs : Sexps) (S : State) → perform a_def xs S ≡ add_def xs S
+unfolding perform
+perform_def xs S = refl
+
+pub perform_result : (xs : Sexps) (S : State) → perform a_result xs S ≡ result xs S
+unfolding perform
+perform_result xs S = refl
+
+pub text_proof : (goals text : List ℕ) → text_of goals text 3 ≡ text
+unfolding text_of
+text_proof goals text = refl
 
 -- Forms of the goals -----------------------------------------------------------------------------------------------------------------
 
-module _ {theory goals : List ℕ} {T : TheoryLists} {B : Board} {n : Sizes} {m : Mark} {cells : List ℕ} (g : GoalItems (texts theory goals goals) T B n m cells) (t : Tried) where
-  abbrev Aims : Board → Type 0
-  Aims D = TriedAs (texts theory goals goals) T B D m g.items.S (chosen 20 goal (tagged goal_form g.items.xs) g.items.xs g.items.S) t
+module _ {g : Given} {b : Board} {s : Store} {cells : List ℕ} (i : GoalItemsIn g b s cells) where
+  abbrev pub goal_answered : Out State (Unit {0})
+  goal_answered = chosen 20 goal (tagged goal_form i.items.xs) i.items.xs i.items.S
 
-  pub goal_var_arm : (vars : List ℕ) (r : Result (Unit {0}) Question) → tagged goal_form g.items.xs ≡ some a_variable →
-      ((k : AddsVar theory goals goals T.sorts T.symbols B.vars n 2 cells) → VarAs goals B.vars vars n 2 k.S (add_var 2 k.xs k.S) r) →
-      t ≡ declared_tried n m r → Aims (board vars B.index B.words B.defs B.goals B.facts B.footings B.lists)
-  goal_var_arm vars r e a f =
-      chosen_tried (board vars B.index B.words B.defs B.goals B.facts B.footings B.lists) g.items.stands 20 goal g.items.xs a_variable t e
-      (goal_var g.items.xs g.items.S)
-      (var_tried B g.items.stands (add_var 2 g.items.xs g.items.S) t 2 vars r (text_goals goals goals)
-      (a (gives_var g.items.stands {which = 2} (omega arith) g.items.holds (goal_many g.items.xs a_variable e))) f)
+  pub goal_untagged : tagged goal_form i.items.xs ≡ nothing → GoalTriedIn g b b s s i.items.S goal_answered (Err NoGoalForm)
+  goal_untagged e = left_as_is g b s i.items.stands NoGoalForm (ap (λ z. chosen 20 goal z i.items.xs i.items.S) e)
 
-  pub goal_arm : (J Y rows : List ℕ) (r : Aimed) → tagged goal_form g.items.xs ≡ some a_goal →
-      ((k : AddsGoal (names theory goals goals T.symbols T.inputs B.vars B.defs) B.goals n B.index B.words m cells 3) (lists : List ℕ) →
-      AimedAs goals B.goals rows lists lists n B.index B.words J Y m k.S (goal a_goal k.xs k.S) r) →
-      t ≡ aimed_tried n r → Aims (board B.vars J Y B.defs rows B.facts B.footings B.lists)
-  goal_arm J Y rows r e a f =
-      chosen_tried (board B.vars J Y B.defs rows B.facts B.footings B.lists) g.items.stands 20 goal g.items.xs a_goal t e refl
-      (goal_tried B g.items.stands g.none_yet (goal a_goal g.items.xs g.items.S) t J Y rows B.lists r
-      (a (stands_adds g.items.stands g.items.holds (goal_many g.items.xs a_goal e)) B.lists) f)
+  module _ {a : GoalForm} (e : tagged goal_form i.items.xs ≡ some a) where
+    pub posed : {K : Out State (Unit {0})} → goal a i.items.xs i.items.S ≡ K → (c : Board) (t : Store) (r : Result (Unit {0}) Question) →
+        GoalTriedIn g b c s t i.items.S K r → GoalTriedIn g b c s t i.items.S goal_answered r
+    posed k c t r w = subst (λ z. GoalTriedIn g b c s t i.items.S z r) (sym (ap (λ z. chosen 20 goal z i.items.xs i.items.S) e ∙ k)) w
 
-  pub goal_with_arm : (J Y rows lists : List ℕ) (r : Aimed) → tagged goal_form g.items.xs ≡ some a_goal_with →
-      ((k : AddsGoal (names theory goals goals T.symbols T.inputs B.vars B.defs) B.goals n B.index B.words m cells 4) →
-      AimedAs goals B.goals rows B.lists lists n B.index B.words J Y m k.S (goal a_goal_with k.xs k.S) r) →
-      t ≡ aimed_tried n r → Aims (board B.vars J Y B.defs rows B.facts B.footings lists)
-  goal_with_arm J Y rows lists r e a f =
-      chosen_tried (board B.vars J Y B.defs rows B.facts B.footings lists) g.items.stands 20 goal g.items.xs a_goal_with t e refl
-      (goal_tried B g.items.stands g.none_yet (goal a_goal_with g.items.xs g.items.S) t J Y rows lists r
-      (a (stands_adds g.items.stands g.items.holds (goal_many g.items.xs a_goal_with e))) f)
+pub goal_var : (xs : Sexps) (S : State) → goal a_variable xs S ≡ add_var 2 xs S
+unfolding goal
+goal_var xs S = refl
+
+pub text_goals : (goals text : List ℕ) → text_of goals text 2 ≡ goals
+unfolding text_of
+text_goals goals text = refl
+
+module _ {g : Given} {b : Board} {s : Store} {cells : List ℕ} (i : GoalItemsIn g b s cells) where
+  -- what both forms of a goal are given
+  abbrev pub goal_given : {least : ℕ} → least ≤ count i.items.xs → AddsGoalIn g b s cells least
+  goal_given l =
+      let h = i.items.stands in
+      record {
+        S = i.items.S;
+        xs = i.items.xs;
+        reads = record { spelling = h.spelling; good = h.good };
+        store = h.store;
+        held = subst (λ z. GoalsHeld z b.rows.now b.n.goals (made s.index.now s.words.now s.mark) i.items.S.goals) (sym i.text) h.goals;
+        used = h.recorded.used;
+        fits = entries_fit h.recorded;
+        holds = i.items.holds;
+        many = l;
+      }
+
+  pub posed_var : (c : Board) (r : Result (Unit {0}) Question) → OnlyVars b c → VarAs g b c 2 i.items.S (add_var 2 i.items.xs i.items.S) r →
+      GoalTriedIn g b c s s i.items.S (add_var 2 i.items.xs i.items.S) r
+  posed_var c (Ok u) o a = var_taken g b c s i.items.stands (add_var 2 i.items.xs i.items.S) 2 (Ok u) o a (text_goals g.goals.now g.text.now ∙ sym i.text) refl
+  posed_var c (Err q) o a = var_left g b c s i.items.stands (add_var 2 i.items.xs i.items.S) 2 (Err q) o a refl
+
+  module _ (a : GoalForm) (c : Board) (t : Store) where
+    pub posed_goal : (r : Result (Unit {0}) Question) → OnlyGoals b c → AimedAs g b c s t i.items.S (goal a i.items.xs i.items.S) r →
+        GoalTriedIn g b c s t i.items.S (goal a i.items.xs i.items.S) r
+    posed_goal (Ok u) o w = goal_taken g b c s t i.items.stands i.text (goal a i.items.xs i.items.S) (Ok u) o w refl i.none_yet
+    posed_goal (Err q) o w = goal_left g b c s t i.items.stands i.text (goal a i.items.xs i.items.S) (Err q) o w refl
+
+    -- where no entry of a list has changed either
+    pub posed_row : (r : Result (Unit {0}) Question) → OnlyRows b c → AimedAs g b c s t i.items.S (goal a i.items.xs i.items.S) r →
+        GoalTriedIn g b c s t i.items.S (goal a i.items.xs i.items.S) r
+    posed_row r o w = posed_goal r (o.0, o.1, o.2, o.3) w

@@ -185,40 +185,14 @@ take_form_atom p bs S = refl
 -- The answers of `tag_of` ----------------------------------------------------------------------------------------------------------
 
 -- f: the tag of a name; ans: the answer for a tag
-module _ {A R : Type 0} (f : List ℕ → ℕ → Option A) (ans : Option A → R) where
-  pub tag_nil : {text words : List ℕ} (xs : Sexps) → Holds text words xs → length words ≡ 0 → ans nothing ≡ ans (tagged f xs)
-  unfolding item headed
-  tag_nil xs h e = sym (ap (λ x. ans (headed f x (count xs))) (ap (λ ys. item ys 0) (walk_over (walk_start h) (omega (arith, e)))))
+module _ {A R : Type 0} (f : List ℕ → ℕ → Option A) (ans : Option A → R) (xs : Sexps) where
+  pub tag_none : {ys : Sexps} → item xs 0 ≡ list ys → ans nothing ≡ ans (tagged f xs)
+  unfolding headed
+  tag_none e = sym (ap (λ x. ans (headed f x (count xs))) e)
 
-  module _ {text words : List ℕ} (xs : Sexps) (h : Holds text words xs) (n : length words ≡ 0 → ⊥) {r : Item} (e : r ≡ item_at words 0) where
-    pub some_item : More xs
-    some_item = walk_more (walk_start h) (omega (arith, n))
-
-    pub first_here : Walk text words 0 (cons some_item.first some_item.others)
-    first_here = rw some_item.is at (walk_start h)
-
-    first_is : item xs 0 ≡ some_item.first
-    unfolding item
-    first_is = ap (λ ys. item ys 0) some_item.is
-
-    pub tag_list : {a b : ℕ} → r ≡ Part a b → ans nothing ≡ ans (tagged f xs)
-    unfolding headed
-    tag_list w = sym (ap (λ x. ans (headed f x (count xs))) (first_is ∙ (walk_list first_here e w).is))
-
-    module _ {p : ℕ} (w : r ≡ Atom p) where
-      pub tag_start : p ≤ length text
-      tag_start = omega (arith, (walk_atom first_here e w).stands.inside)
-
-      module _ {q : ℕ} (g : q ≡ p + length (letters (drop p text))) where
-        pub tag_span : Span text p q (walk_atom first_here e w).bytes
-        tag_span = span (walk_atom first_here e w).stands g
-
-        pub tag_found : {k : ℕ} → k ≡ count xs → ans (f (take (q - p) (drop p text)) k) ≡ ans (tagged f xs)
-        unfolding headed
-        tag_found {k} c =
-            ap (λ l. ans (f l k)) tag_span.part
-            ∙ ap (λ m. ans (f (walk_atom first_here e w).bytes m)) c
-            ∙ sym (ap (λ x. ans (headed f x (count xs))) (first_is ∙ (walk_atom first_here e w).is))
+  pub tag_found : {p : ℕ} {name : List ℕ} {k : ℕ} → item xs 0 ≡ atom p name → k ≡ count xs → ans (f name k) ≡ ans (tagged f xs)
+  unfolding headed
+  tag_found {name = name} e c = ap (λ m. ans (f name m)) c ∙ sym (ap (λ x. ans (headed f x (count xs))) e)
 
 -- The cells of a form --------------------------------------------------------------------------------------------------------------
 

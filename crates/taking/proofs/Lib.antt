@@ -1,6 +1,4 @@
+-- Laws on which the proofs stand.
 pub mod Arms
 pub mod Ends
 pub mod Heads
-pub mod Numbering
-pub mod Tries
-pub mod Inverts

@@ -2,7 +2,5 @@
 // equal to `take_goal` and `take_form` of the crate `rules`.
 #![tactic(auto)]
 
-pub mod answers;
-pub mod numbered;
 pub mod tags;
 pub mod take;

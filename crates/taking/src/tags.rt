@@ -6,23 +6,16 @@ ghost use Rattle.sexp.specs.Items.{Held, Holds};
 ghost use Rattle.sexp.specs.TagTable.{goal_answer, tag_answer};
 ghost use Rattle.taking.specs.Tagged.{tagged};
 
-use sexp::items::Item;
+use sexp::items;
 use sexp::tags::{GoalForm, Tag, goal_tag, proof_tag};
-use sexp::{items, lex};
 
 // Of the goals.
 pub fn tag_of_goal(text: &[u8], items: &[u32]) -> Option<GoalForm>
     requires { Held text.now items.now }
     ensures { (xs : Sexps) → Holds text.now items.now xs → result ≡ goal_answer (tagged goal_form xs) }
 {
-    if items.len() == 0 {
-        return None;
-    }
-    let Item::Atom(start) = items::item_at(items, 0) else {
-        return None;
-    };
-    let end = lex::atom_end(text, start);
-    goal_tag(&text[start..end], items::count(items))
+    let name = items::head(text, items)?;
+    goal_tag(name, items::count(items))
 }
 
 // Of the proof.
@@ -30,12 +23,6 @@ pub fn tag_of(text: &[u8], items: &[u32]) -> Option<Tag>
     requires { Held text.now items.now }
     ensures { (xs : Sexps) → Holds text.now items.now xs → result ≡ tag_answer (tagged proof_tag xs) }
 {
-    if items.len() == 0 {
-        return None;
-    }
-    let Item::Atom(start) = items::item_at(items, 0) else {
-        return None;
-    };
-    let end = lex::atom_end(text, start);
-    proof_tag(&text[start..end], items::count(items))
+    let name = items::head(text, items)?;
+    proof_tag(name, items::count(items))
 }

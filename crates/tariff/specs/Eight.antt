@@ -1,26 +1,26 @@
 -- An answer as eight numbers: 1 and the seven counts of the report; or 0, then number, text, form and detail of the refusal, and zeros. And a call of a
 -- check whose answer is told so. Assumes nothing.
-use Rattle.std.specs.Prelude.{◌≡◌, ℕ, Bool, true, false, List, [], ◌∷◌, ◌++◌, ltb, length, drop}
-use Rattle.running.specs.declared.finish.Answer.{Answer}
-use Rattle.running.specs.declared.finish.Answer.TheVariants.{Accepted, Refused}
+use Rattle.std.specs.Prelude.{◌≡◌, ℕ, Bool, true, false, List, [], ◌∷◌, ◌++◌, ltb, length, drop, Result, Ok, Err}
+use Rattle.running.specs.declared.finish.Report.{Report}
+use Rattle.running.specs.declared.finish.Refusal.{Refusal}
 use Rattle.rules.specs.StateTables.{Tables}
 use Rattle.running.specs.Finished.{answer_of}
 use Rattle.running.specs.ReadBack.{Call}
 
-abbrev pub eight : Answer → List ℕ
-eight (Accepted r) = 1 ∷ r.steps ∷ r.goals ∷ r.open_goals ∷ r.hypotheses ∷ r.inductions ∷ r.inversions ∷ r.instances ∷ []
-eight (Refused r) = 0 ∷ r.number ∷ r.text ∷ r.form ∷ r.detail ∷ 0 ∷ 0 ∷ 0 ∷ []
+abbrev pub eight : Result Report Refusal → List ℕ
+eight (Ok r) = 1 ∷ r.steps ∷ r.goals ∷ r.open_goals ∷ r.hypotheses ∷ r.inductions ∷ r.inversions ∷ r.instances ∷ []
+eight (Err r) = 0 ∷ r.number ∷ r.text ∷ r.form ∷ r.detail ∷ 0 ∷ 0 ∷ 0 ∷ []
 
 -- the first eight numbers anew; a list that has fewer stays as it is
 abbrev pub laid_eight : Bool → List ℕ → List ℕ → List ℕ
 laid_eight true eights before = before
 laid_eight false eights before = eights ++ drop 8 before
 
-abbrev pub answered : Answer → List ℕ → List ℕ
+abbrev pub answered : Result Report Refusal → List ℕ → List ℕ
 answered r before = laid_eight (ltb (length before) 8) (eight r) before
 
 -- out, out': the numbers before and afterwards
 pub record Told (theory goals proof : List ℕ) (before after : Tables) (out out' : List ℕ) : Type 0 where
-  pub answer : Answer
+  pub answer : Result Report Refusal
   pub call : Call theory goals proof before after (answer_of answer)
   pub told : out' ≡ answered answer out

@@ -1,7 +1,7 @@
 // The check for programs in other languages, which link the static library: one function, over tables and texts as pointer and length.
 #![tactic(auto)]
 
-ghost use Rattle.std.specs.Prelude.{◌≡◌, [], ◌∷◌, ltb, length, drop};
+ghost use Rattle.std.specs.Prelude.{◌≡◌, ltb, length, drop};
 ghost use Rattle.rules.specs.Limits.{FACTS};
 ghost use Rattle.kernel.specs.Parsed.{theory_lists};
 ghost use Rattle.running.specs.Lent.{working};
@@ -9,53 +9,36 @@ ghost use Rattle.running.specs.Checking.{tables_of};
 ghost use Rattle.tariff.specs.Eight.{laid_eight, answered, Told};
 
 use facts::Fact;
-use running::finish::Answer;
+use running::finish::{Refusal, Report};
 
 // Eight numbers come to the front of a slice that has room for them.
-fn put(
-    out: &mut [u64],
-    first: usize,
-    a: usize,
-    b: usize,
-    c: usize,
-    d: usize,
-    e: usize,
-    f: usize,
-    g: usize,
-)
-    ensures { out.new ≡ laid_eight (ltb (length out.old) 8) (first ∷ a ∷ b ∷ c ∷ d ∷ e ∷ f ∷ g ∷ []) out.old }
+fn put(out: &mut [u64], eight: &[u64; 8])
+    ensures { out.new ≡ laid_eight (ltb (length out.old) 8) eight.now out.old }
 {
     if out.len() < 8 {
         return;
     }
-    out[0] = first as u64;
-    out[1] = a as u64;
-    out[2] = b as u64;
-    out[3] = c as u64;
-    out[4] = d as u64;
-    out[5] = e as u64;
-    out[6] = f as u64;
-    out[7] = g as u64;
+    out[..8].copy_from_slice(eight);
 }
 
 // The answer in eight numbers.
-fn tell(out: &mut [u64], r: Answer)
-    ensures { out.new ≡ answered r out.old }
+fn tell(out: &mut [u64], answer: Result<Report, Refusal>)
+    ensures { out.new ≡ answered answer out.old }
 {
-    match r {
-        Answer::Accepted(p) => put(
-            out,
+    let eight = match answer {
+        Ok(r) => [
             1,
-            p.steps,
-            p.goals,
-            p.open_goals,
-            p.hypotheses,
-            p.inductions,
-            p.inversions,
-            p.instances,
-        ),
-        Answer::Refused(p) => put(out, 0, p.number, p.text, p.form, p.detail, 0, 0, 0),
-    }
+            r.steps,
+            r.goals,
+            r.open_goals,
+            r.hypotheses,
+            r.inductions,
+            r.inversions,
+            r.instances,
+        ],
+        Err(r) => [0, r.number, r.text, r.form, r.detail, 0, 0, 0],
+    };
+    put(out, &eight.map(|n| n as u64));
 }
 
 // The whole check. A slice of fewer than eight numbers gets no answer.
@@ -89,9 +72,9 @@ pub extern "C" fn tariff_check(
         missing.new facts.new)
         answer.old answer.new × (drop FACTS facts.new ≡ drop FACTS facts.old) }
 {
-    let r = schematic::check(
+    let result = schematic::check(
         theory, goals, proof, sorts, symbols, inputs, rules, rulevars, patterns, vars, index,
         words, defs, rows, facts, lists, missing,
     );
-    tell(answer, r);
+    tell(answer, result);
 }

@@ -2,7 +2,6 @@
 // and a rule's patterns matched and built. Each function is proved equal to the definition in the crate `rules`.
 #![tactic(auto)]
 
-pub mod apart;
 pub mod patterns;
 pub mod replace;
 pub mod sets;

@@ -1,4 +1,3 @@
-pub mod Apart
 pub mod Pairs
 pub mod Extend
 pub mod Unify

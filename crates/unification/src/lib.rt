@@ -1,7 +1,6 @@
 // Unification of terms in tables of numbers, over the store of the crate `terms`. Proved equal to the definition in the crate `rules`.
 #![tactic(auto)]
 
-pub mod apart;
 mod pairs;
 mod peel;
 mod theta;

@@ -17,12 +17,11 @@ use Rattle.sexp.specs.Never.{never}
 use Rattle.sexp.specs.AtomText.{AtomText, text_of}
 use Rattle.sexp.specs.NthItem.{place_high, rest_holds}
 use Rattle.sexp.specs.WalkLaws.{ListIs}
-use Rattle.sexp.specs.FoundLaws.{found_at, found_missing}
 use Rattle.sexp.specs.declared.items.Item.{Item}
 use Rattle.sexp.specs.declared.items.Item.TheVariants.{Atom, List as Part}
 use Rattle.reading.specs.Items.{FirstItem, index_in, vars_in, index_found}
 use Rattle.reading.specs.Given.{VarsItem}
-use Rattle.reading.specs.Answers.{VarsAs}
+use Rattle.reading.specs.Answers.{VarsRead}
 use Rattle.reading.specs.Laws.Lists.{vars_found}
 use Rattle.reading.specs.Laws.Walks.{first_atom, first_list, first_some}
 use Rattle.casework.specs.Cases.{CaseItem, CaseFirst, CaseIs}
@@ -37,9 +36,6 @@ atom_bytes p q bs cs e = cc
 
 pub not_both : {A : Type 0} (x : Sexp) (ys : Sexps) (p : ℕ) (bs : List ℕ) → x ≡ list ys → x ≡ atom p bs → A
 not_both x ys p bs e f = let z : list ys ≡ atom p bs = sym e ∙ f in never cc
-
-some_of : {A : Type 0} (a b : A) → some a ≡ some b → a ≡ b
-some_of a b e = cc
 
 -- What the definition reads ------------------------------------------------------------------------------------------------------------------
 
@@ -169,14 +165,12 @@ module _ {goals text vars cells : List ℕ} {count' : ℕ} (g : VarsItem goals t
             name_text = text_of (first_atom (inner_first within.holds three) e2 k)
 
             module _ {at : ℕ} (pl : (zs : Sexps) → inside ≡ encodes zs → at ≡ place zs 1) {r : Option ℕ}
-                (ix : (x : Sexp) (ys : Sexps) → Holds text (take (length inside - at) (drop at inside)) (cons x ys) → r ≡ (index_in x)) where
-              index_is : r ≡ (index_in (item within.items 1))
+                (ix : (x : Sexp) (ys : Sexps) → Holds text (take (length inside - at) (drop at inside)) (cons x ys) → r ≡ index_in x) where
+              index_is : r ≡ index_in (item within.items 1)
               index_is = ix (item within.items 1) (rest within.items 2) (inner_rest within.holds three 1 (omega arith) pl)
 
               pub vars_no_index : r ≡ nothing → (M : Made) → read_case g.S g.x M ≡ refuse 41 0 M
-              vars_no_index z M =
-                  case_no_index_lem g.S g.x M within.items within.is three p _ name_text.is
-                  (found_missing (index_in (item within.items 1)) r index_is z)
+              vars_no_index z M = case_no_index_lem g.S g.x M within.items within.is three p _ name_text.is (sym index_is ∙ z)
 
               module _ {i : ℕ} (z : r ≡ some i) {at2 : ℕ} (pl2 : (zs : Sexps) → inside ≡ encodes zs → at2 ≡ place zs 2) where
                 abbrev pub vars_item : VarsItem goals text vars count' (take (length inside - at2) (drop at2 inside))
@@ -188,39 +182,29 @@ module _ {goals text vars cells : List ℕ} {count' : ℕ} (g : VarsItem goals t
                   holds = inner_rest within.holds three 2 (omega arith) pl2;
                 }
 
-                found_index : index_in (item within.items 1) ≡ some i
-                found_index = found_at (index_in (item within.items 1)) r i index_is z
+                pub vars_no_vars : vars_in g.S.vars (item within.items 2) ≡ nothing → (M : Made) → read_case g.S g.x M ≡ refuse 42 0 M
+                vars_no_vars v M = case_no_vars g.S g.x M within.items within.is three p _ name_text.is i (sym index_is ∙ z) v
 
-                module _ (before out : List ℕ) (s : Option ℕ)
-                    (w : (k : VarsItem goals text vars count' (take (length inside - at2) (drop at2 inside))) → VarsAs k.S.vars k.x before out s) where
-                  pub vars_no_vars : s ≡ nothing → ((M : Made) → read_case g.S g.x M ≡ refuse 42 0 M) × (out ≡ before)
-                  vars_no_vars q =
-                      let v : VarsAs g.S.vars (item within.items 2) before out nothing =
-                      subst (λ (u : Option ℕ). VarsAs g.S.vars (item within.items 2) before out u) q (w vars_item) in
-                      (λ M. case_no_vars g.S g.x M within.items within.is three p _ name_text.is i found_index v.0, v.1)
-
-                  pub vars_read : {many : ℕ} → s ≡ some many → CaseIs g.S text g.x out p i many
-                  vars_read {many} q =
-                      let v : VarsAs g.S.vars (item within.items 2) before out (some many) =
-                      subst (λ (u : Option ℕ). VarsAs g.S.vars (item within.items 2) before out u) q (w vars_item) in
-                      record {
-                        c = record { name = letters (drop p text); fact = i; vars = v.vars };
-                        read = λ M. case_read g.S g.x M within.items within.is three p _ name_text.is i found_index v.vars v.are;
-                        case = record {
-                          inner = within.items;
-                          is = within.is;
-                          three = three;
-                          place = p;
-                          named = name_text.is;
-                          fact = found_index;
-                          vars = v.are;
-                        };
-                        inside = name_text.inside;
-                        bytes = refl;
-                        number = refl;
-                        count = v.count;
-                        cells_are = v.cells_are;
-                      }
+                pub vars_read : {out : List ℕ} {many : ℕ} → VarsRead g.S.vars (item within.items 2) out many → CaseIs g.S text g.x out p i many
+                vars_read v =
+                    record {
+                      c = record { name = letters (drop p text); fact = i; vars = v.vars };
+                      read = λ M. case_read g.S g.x M within.items within.is three p _ name_text.is i (sym index_is ∙ z) v.vars v.are;
+                      case = record {
+                        inner = within.items;
+                        is = within.is;
+                        three = three;
+                        place = p;
+                        named = name_text.is;
+                        fact = sym index_is ∙ z;
+                        vars = v.are;
+                      };
+                      inside = name_text.inside;
+                      bytes = refl;
+                      number = refl;
+                      count = v.count;
+                      cells_are = v.cells_are;
+                    }
 
 -- Its name -------------------------------------------------------------------------------------------------------------------------------------
 

@@ -1,9 +1,9 @@
 -- A fact's row compared with a judgment, premises and generalised variables by their numbers; and the facts that have them, as a set. Assumes nothing.
-use Rattle.std.specs.Prelude.{◌≡◌, refl, Bool, ◌&&◌, ◌||◌, not, ℕ, ◌+◌, ◌<◌, ◌≤◌, length, get_or, drop}
+use Rattle.std.specs.Prelude.{◌≡◌, refl, Bool, ◌&&◌, ◌||◌, ℕ, ◌+◌, ◌<◌, ◌≤◌, length, get_or, drop}
 use Rattle.std.proofs.Math.Path.{sym, ap}
 use Rattle.std.proofs.Common.{◌∙◌, subst, true≢false, arith, add-one, drop_of_length-le, drop-cons, eq-eqb, ne_eqb, eqb-true}
 use Rattle.std.proofs.Math.Bool.{true, false}
-use Rattle.std.proofs.lemmas.Bool.{false≢true, not-true, not-false}
+use Rattle.std.proofs.lemmas.Bool.{false≢true}
 use mathlib.Core.List.{List, [], ◌∷◌}
 use Rattle.std.proofs.Math.Dec.{eqb}
 use lib.Pointwise.{pointwise}
@@ -136,13 +136,6 @@ module _ {facts lists : List ℕ} {n : Sizes} {I W : List ℕ} {m : Mark} (g : R
             b ≡ is_allowed (fact_of g.S h) (allowed_of (made I W m) ids j gs)
         row_so e f q {b} w =
             sym (row_is ∙ and_both _ _ _ b (premises_same ∙ q) (eq-eqb j (cell 6 facts h 0) (sym f ∙ e)) (w ∙ cells_same gs (part lists (general_span facts h))))
-
--- what `mark_one` did
-pub mark_none : {b p : Bool} (h : ℕ) (fine : List ℕ) → b ≡ p → not b ≡ true → OneMarked p h fine fine
-mark_none {b} h fine e q = (λ y. absurd (true≢false (sym y ∙ sym e ∙ not-true b q)), λ n. refl)
-
-pub mark_some : {b p : Bool} (h : ℕ) (fine fine' : List ℕ) → b ≡ p → not b ≡ false → holds fine' ≡ plus h (holds fine) → OneMarked p h fine fine'
-mark_some {b} h fine fine' e q s = (λ y. s, λ n. absurd (true≢false (sym (not-false b q) ∙ e ∙ n)))
 
 -- Those that pass a test, as a set -------------------------------------------------------------------------------------------------------------
 

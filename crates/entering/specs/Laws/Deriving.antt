@@ -1,75 +1,89 @@
 -- Forms of derived facts, and all tables at once: what they are given, and what stands afterwards. Assumes nothing.
-use Rattle.std.specs.Prelude.{◌≡◌, refl, List, ℕ, ◌+◌, ◌≤◌, Ok}
-use Rattle.std.proofs.Common.{ap, subst}
+use Rattle.std.specs.Prelude.{◌≡◌, refl, List, ℕ, ◌+◌, ◌≤◌, Result, Ok, Err}
+use Rattle.std.proofs.Common.{sym, subst}
 use Rattle.rules.specs.Out.{Out}
 use Rattle.rules.specs.Sexp.{Sexps, count}
-use Rattle.rules.specs.State.{State, Counts}
+use Rattle.rules.specs.State.{State}
 use Rattle.rules.specs.Forms.{with_made, plus}
+use Rattle.questions.specs.declared.Question.{Question}
+use Rattle.questions.specs.Numbers.{number_of, detail_of}
 use Rattle.sexp.specs.Items.{Holds}
-use Rattle.kernel.specs.Parsed.{TheoryLists}
-use Rattle.terms.specs.declared.store.Mark.{Mark}
+use Rattle.terms.specs.declared.store.Store.{Store}
 use Rattle.terms.specs.Table.{made}
 use Rattle.state.specs.declared.sizes.Sizes.{Sizes}
-use Rattle.state.specs.Held.{Names, RuleLists, Records, names, rule_lists, records}
+use Rattle.state.specs.declared.board.Given.{Given}
+use Rattle.state.specs.declared.board.Board.{Board as Lent}
 use Rattle.state.specs.Used.{facts_now}
 use Rattle.state.specs.Recording.{with_fact}
-use Rattle.state.specs.Stands.{Texts, Board, board, Stands}
+use Rattle.state.specs.Stands.{Board, board, Stands}
 use Rattle.state.specs.Updates.{stands_derived}
-use Rattle.entering.specs.declared.derive.Entered.{Entered}
-use Rattle.entering.specs.declared.derive.Entered.TheVariants as entered_as
+use Rattle.counts.specs.declared.Counts.{Counts}
+use Rattle.counts.specs.Counted.{counts_of}
 use Rattle.referring.specs.Recall.{Refers}
-use Rattle.forms.specs.Halted.{Halts}
-use Rattle.entering.specs.Entered.{AddsInstance, AddsDerived, FactAdded, EnteredAs}
-use Rattle.forms.specs.Moved.{Moves, Left}
+use Rattle.forms.specs.Boards.{texts_of, theory_of, names_in, StandsIn, OnlyFacts}
+use Rattle.forms.specs.Moved.{MovesIn, LeftIn}
 use Rattle.forms.specs.Laws.Leaving.{stands_makes}
+use Rattle.entering.specs.declared.derive.Way.{Way}
+use Rattle.entering.specs.declared.derive.Way.TheVariants as way
+use Rattle.entering.specs.Entered.{AddsInstanceIn, AddsDerivedIn, AddsBy, EnteredAs, AddedBy, way_act}
 
-abbrev pub names_of : Texts → TheoryLists → Board → Names
-names_of X T B = names X.theory X.goals X.text T.symbols T.inputs B.vars B.defs
-
-abbrev pub rules_of : Texts → TheoryLists → RuleLists
-rules_of X T = rule_lists X.theory T.rules T.rule_vars T.patterns
-
-abbrev pub records_of : Board → Records
-records_of B = records B.facts B.footings B.lists
+-- how many items a form has at least
+abbrev pub least_of : Way → ℕ
+least_of way.Step = 4
+least_of way.Apply = 5
+least_of way.Induct = 5
+least_of way.InductWith = 6
 
 -- Given --------------------------------------------------------------------------------------------------------------------------------
 
-module _ {X : Texts} {T : TheoryLists} {B : Board} {n : Sizes} {m : Mark} {S : State} (h : Stands X T B n m S) where
-  abbrev pub stands_refers : Refers (names_of X T B) B.facts B.footings B.lists n B.index B.words m S
+module _ (g : Given) (b : Lent) (s : Store) {S : State} (h : StandsIn g b s S) {cells : List ℕ} {xs : Sexps} (o : Holds g.text.now cells xs) where
+  abbrev pub stands_refers : Refers (names_in g b) b.facts.now b.footings.now b.lists.now b.n s.index.now s.words.now s.mark S
   stands_refers = record { reads = record { spelling = h.spelling; good = h.good }; recorded = h.recorded }
 
-  -- what `add_step` is given
-  abbrev pub stands_instance : {cells : List ℕ} {xs : Sexps} {least : ℕ} → Holds X.text cells xs → least ≤ count xs →
-      AddsInstance (names_of X T B) (rules_of X T) B.facts B.footings B.lists n B.index B.words m cells least
-  stands_instance {xs = xs} o l =
-      record { form = record { S = S; xs = xs; refers = stands_refers; ruled = h.ruled; holds = o; many = l }; store = h.store }
+  -- what a step is given, and the other forms
+  abbrev pub stands_instance : {least : ℕ} → least ≤ count xs → AddsInstanceIn g b s cells least
+  stands_instance l = record { form = record { S = S; xs = xs; refers = stands_refers; ruled = h.ruled; holds = o; many = l }; store = h.store }
 
-  -- what `add_apply` and the inductions are given
-  abbrev pub stands_form : {cells : List ℕ} {xs : Sexps} {least : ℕ} → Holds X.text cells xs → least ≤ count xs →
-      AddsDerived (names_of X T B) B.facts B.footings B.lists n B.index B.words m cells least
-  stands_form {xs = xs} o l = record { form = record { S = S; xs = xs; refers = stands_refers; holds = o; many = l }; store = h.store }
+  abbrev pub stands_form : {least : ℕ} → least ≤ count xs → AddsDerivedIn g b s cells least
+  stands_form l = record { form = record { S = S; xs = xs; refers = stands_refers; holds = o; many = l }; store = h.store }
 
-  -- Answered ---------------------------------------------------------------------------------------------------------------------------
+  -- by the way in which the fact is found
+  pub stands_adds : (w : Way) → least_of w ≤ count xs → AddsBy w g b s cells
+  stands_adds way.Step l = stands_instance l
+  stands_adds way.Apply l = stands_form l
+  stands_adds way.Induct l = stands_form l
+  stands_adds way.InductWith l = stands_form l
 
-  -- Q: the tables of facts afterwards; c: what the form counts, by its instances
-  module _ (K : Out State (Unit {0})) (J Y : List ℕ) (Q : Records) (c : ℕ → Counts) (r : Entered)
-      (a : EnteredAs (records_of B) Q n B.index B.words J Y m S K c r) where
-    abbrev Said : Entered → Type 0
-    Said z = EnteredAs (records_of B) Q n B.index B.words J Y m S K c z
+  pub adds_entered : (w : Way) → least_of w ≤ count xs → (c : Lent) (t : Store) (r : Result Counts Question) → AddedBy w g b c s t cells r →
+      EnteredAs b c s t S (way_act w xs S) r
+  adds_entered way.Step l c t r a = a (stands_instance l)
+  adds_entered way.Apply l c t r a = a (stands_form l)
+  adds_entered way.Induct l c t r a = a (stands_form l)
+  adds_entered way.InductWith l c t r a = a (stands_form l)
 
-    pub entered_taken : {e k : ℕ} {now : Mark} → r ≡ entered_as.Ok e k now →
-        Moves X T (board B.vars J Y B.defs B.goals Q.facts Q.footings Q.lists) (facts_now n (n.facts + 1) e) now K (plus S.counts (c k))
-    entered_taken {e} {k} {now} q =
-        let z : FactAdded (records_of B) Q n B.index B.words J Y m S K (c k) e now = subst Said q a in
-        record {
-          after = with_fact (with_made S (made J Y now)) z.new (plus S.counts (c k));
-          is = z.is;
-          stands = stands_derived (stands_makes h z.makes) (plus S.counts (c k)) e z.derives z.valid (Ok e) z.stored refl;
-          counted = refl;
-        }
+-- Answered ---------------------------------------------------------------------------------------------------------------------------
 
-    pub entered_left : {q d : ℕ} {now : Mark} → r ≡ entered_as.No q d now →
-        Left B (board B.vars J Y B.defs B.goals Q.facts Q.footings Q.lists) m K q d now
-    entered_left {q} {d} {now} w =
-        let z : Halts B.index B.words J Y m S K q d now × (Q ≡ records_of B) = subst Said w a in
-        record { until = _; is = z.0.is; makes = z.0.makes; rests = ap (λ (x : Records). board B.vars J Y B.defs B.goals x.facts x.footings x.lists) z.1 }
+module _ (g : Given) (b c : Lent) (s t : Store) {S : State} (h : StandsIn g b s S) (K : Out State (Unit {0})) (o : OnlyFacts b c) where
+  pub entered_taken : {u : Counts} → EnteredAs b c s t S K (Ok u) → MovesIn g c t K (plus S.counts (counts_of u))
+  entered_taken {u} z =
+      let y = z.0 in
+      let T = with_fact (with_made S (made t.index.now t.words.now t.mark)) y.new (plus S.counts (counts_of u)) in
+      record {
+        after = T;
+        is = y.is;
+        stands = subst (λ (x : Board × Sizes). Stands (texts_of g) (theory_of g) x.0 x.1 t.mark T)
+            (λ i. (board (sym o.0 i) t.index.now t.words.now (sym o.1 i) (sym o.2 i) c.facts.now c.footings.now c.lists.now, sym z.1 i))
+            (stands_derived (stands_makes h y.makes) (plus S.counts (counts_of u)) c.n.entries y.derives y.valid (Ok c.n.entries) y.stored refl);
+        counted = refl;
+      }
+
+  pub entered_left : (q : Question) → EnteredAs b c s t S K (Err q) → LeftIn b c s t K q
+  entered_left q z = (
+    record {
+      until = _;
+      is = z.0.is;
+      makes = z.0.makes;
+      rests = λ i. board (o.0 i) t.index.now t.words.now (o.1 i) (o.2 i) ((z.1 i).facts) ((z.1 i).footings) ((z.1 i).lists);
+    },
+    z.2,
+  )

@@ -4,7 +4,7 @@ use Rattle.std.specs.Prelude.{◌≡◌, replicate, Result, Ok, Err}
 use Rattle.std.proofs.Math.Path.{refl, sym, ap, subst}
 use Rattle.std.proofs.Common.{◌∙◌}
 use mathlib.Core.List.{List, [], ◌∷◌, ◌++◌}
-use Prim.Native.Nat.{ℕ, suc, ◌^◌, ◌<◌, ◌≤◌}
+use Prim.Native.Nat.{ℕ, suc, ◌<◌, ◌≤◌}
 use native.Mathlib.Omega.{arith}
 use native.Mathlib.Decide.{dec_lt}
 use Rattle.std.proofs.Math.ListN.{length, get_or, length-append}
@@ -87,9 +87,6 @@ module _ {I W J X : List ℕ} {old now : Mark} (g : Grown I W J X old now) (map 
 
     pub under_there : {t : ℕ} → r ≡ Ok t → t < new.terms
     under_there e = (after_term a e).there
-
-    pub under_small : {t : ℕ} → r ≡ Ok t → t < 2 ^ 32
-    under_small e = let s = after_term a e in omega (arith, s.there, s.grown.good.room)
 
     pub under_stopped : {row : Row} → r ≡ Err row → Stopped J X Y Z now (substitute (replacement (made I W old) map) (tree I W old id) (made J X now)) 60 (row_number row) new
     under_stopped e = let s = after_full a e in record { grown = s.grown; makes = sym same_action ∙ s.makes }

@@ -1,19 +1,13 @@
--- `schematic::run` meets its contract. Assumes nothing.
-use Rattle.std.proofs.Common.{sym, ◌∙◌}
-use Rattle.schematic.proofs.Looping.{begin, asked, next, less, ran}
+use Rattle.std.proofs.Common.{◌∙◌}
+use Rattle.std.proofs.lemmas.Result.{err_from_is_err_and}
+use Rattle.schematic.proofs.Whole.{left, begun}
 use Rattle.schematic.proofs.run.Goals as goal
 
-pub loop-vars-init : goal.loop-vars-init
-loop-vars-init c = begin c.requires
+pub returns-in_err-begin-clause-ran : goal.returns-in_err-begin-clause-ran
+returns-in_err-begin-clause-ran c =
+    let p = err_from_is_err_and c.from_residual.result c.from_residual.ensures.1 in
+    rw (p.1, p.2) (left c.requires.facts_len.0 c.requires.facts_len.1 c.in_err-begin.ensures.opened)
 
-pub turn-next-requires : goal.turn-next-requires
-turn-next-requires c = asked c.loop-vars.invariant (sym c.is_going.ensures ∙ c.loop-vars-test.true)
-
-pub loop-vars-smaller : goal.loop-vars-smaller
-loop-vars-smaller c = less c.loop-vars.invariant c.turn-next.ensures (sym c.is_going.ensures ∙ c.loop-vars-test.true)
-
-pub loop-vars-preserved : goal.loop-vars-preserved
-loop-vars-preserved c = next c.loop-vars.invariant c.turn-next.ensures (sym c.is_going.ensures ∙ c.loop-vars-test.true)
-
-pub returns : goal.returns
-returns c = ran c.loop-vars.invariant (sym c.is_going.ensures ∙ c.loop-vars-test.false)
+pub prove-requires-clause-kept : goal.prove-requires-clause-kept
+prove-requires-clause-kept c =
+    rw c.given_of-given.ensures (begun _ c.begin.new.board c.begin.new.store c.requires.facts_len.0 c.requires.facts_len.1 c.in_ok-begin.ensures.opened)

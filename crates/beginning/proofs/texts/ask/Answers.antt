@@ -1,11 +1,12 @@
+use Rattle.rules.specs.Text.{short, plain}
 use Rattle.beginning.proofs.Asks.{left_long, left_odd, none_left}
 use Rattle.beginning.proofs.texts.ask.Goals as goal
 
-pub returns-then-long-ne0 : goal.returns-then-long-ne0
-returns-then-long-ne0 c = left_long _ c.first_long-long.ensures c.if-long-ne0.true
+pub returns-in-Some : goal.returns-in-Some
+returns-in-Some c = left_long _ (c.in-Some.ensures short (λ x r h. h)) c.left.ensures
 
-pub returns-then-odd-ne0 : goal.returns-then-odd-ne0
-returns-then-odd-ne0 c = left_odd c.first_long-long.ensures c.if-long-ne0.false _ c.first_odd-odd.ensures c.if-odd-ne0.true
+pub returns-in-Some-first_failing : goal.returns-in-Some-first_failing
+returns-in-Some-first_failing c = left_odd (c.in_default.ensures short (λ x r h. h)) _ (c.in-Some-first_failing.ensures plain (λ x r h. h)) c.left-in-Some-first_failing.ensures
 
 pub returns : goal.returns
-returns c = none_left c.first_long-long.ensures c.if-long-ne0.false c.first_odd-odd.ensures c.if-odd-ne0.false
+returns c = none_left (c.in_default.ensures short (λ x r h. h)) (c.in_default-first_failing.ensures plain (λ x r h. h))

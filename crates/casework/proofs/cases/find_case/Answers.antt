@@ -23,9 +23,6 @@ returns-then-is_named c = λ g. seeking_found g _ (c.loop.invariant g) c.loop-te
 pub after-at-requires : goal.after-at-requires
 after-at-requires c = seeking_inside c.requires _ (c.loop.invariant c.requires) c.loop-test.true
 
-pub loop-smaller : goal.loop-smaller
-loop-smaller c = omega (arith, c.loop-test.true)
-
 pub loop-preserved : goal.loop-preserved
 loop-preserved c = λ g. seeking_on g _ (c.loop.invariant g) c.loop-test.true c.is_named.result c.is_named.ensures c.if-is_named.false c.after-at.ensures
 

@@ -102,11 +102,18 @@ vars_list-requires c = (
 )
 
 pub returns-in_default-vars_list : goal.returns-in_default-vars_list
-returns-in_default-vars_list c = λ g. let v = vars_no_vars g c.item_at.ensures c.in-List.is c.count.ensures c.if-count-ne3.false c.item_at-2.ensures c.in-Atom.is c.place-second.ensures
-    c.index.ensures c.in-Some.is c.place-third.ensures c.args.out.now c.vars_list.new.out c.vars_list.result
-    c.vars_list.ensures c.in_default-vars_list.is in (v.0, (v.1, refl))
+returns-in_default-vars_list c = λ g.
+    let i = vars_item g c.item_at.ensures c.in-List.is c.count.ensures c.if-count-ne3.false c.item_at-2.ensures c.in-Atom.is c.place-second.ensures c.index.ensures c.in-Some.is
+    c.place-third.ensures in
+    let v = c.in_default-vars_list.ensures i in (
+      vars_no_vars g c.item_at.ensures c.in-List.is c.count.ensures c.if-count-ne3.false c.item_at-2.ensures c.in-Atom.is c.place-second.ensures c.index.ensures c.in-Some.is
+          c.place-third.ensures v.0,
+      (v.1, refl),
+    )
 
 pub returns : goal.returns
-returns c = λ g. vars_read g c.item_at.ensures c.in-List.is c.count.ensures c.if-count-ne3.false c.item_at-2.ensures c.in-Atom.is c.place-second.ensures
-    c.index.ensures c.in-Some.is c.place-third.ensures c.args.out.now c.vars_list.new.out c.vars_list.result
-    c.vars_list.ensures c.in-Some-vars_list.is
+returns c = λ g.
+    let i = vars_item g c.item_at.ensures c.in-List.is c.count.ensures c.if-count-ne3.false c.item_at-2.ensures c.in-Atom.is c.place-second.ensures c.index.ensures c.in-Some.is
+    c.place-third.ensures in
+    vars_read g c.item_at.ensures c.in-List.is c.count.ensures c.if-count-ne3.false c.item_at-2.ensures c.in-Atom.is c.place-second.ensures c.index.ensures c.in-Some.is
+    c.place-third.ensures (c.in-Some-vars_list.ensures i)

@@ -4,6 +4,3 @@ use Rattle.casework.proofs.cases.read_many.Goals as goal
 
 pub read_with-requires : goal.read_with-requires
 read_with-requires c = (c.requires, kept_none _ 16384 (omega arith))
-
-pub returns : goal.returns
-returns c = c.read_with.ensures

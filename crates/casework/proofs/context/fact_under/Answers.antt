@@ -2,20 +2,17 @@ use mathlib.Core.Path.{◌∙◌}
 use Rattle.std.proofs.lemmas.Result.{err_from_is_err_and}
 use Rattle.referring.specs.Laws.Refers.{fact_asks}
 use Rattle.referring.specs.Laws.Substitutes.{replaceable_now, memo_asked, under_went, under_there, under_stopped}
-use Rattle.casework.specs.Laws.Rows.{recalled, general_is}
+use Rattle.casework.specs.Laws.Rows.{general_is}
 use Rattle.casework.proofs.Under.{premises_stop, judgment_stop, under_read, compared, under_asks, judgment_small}
 use Rattle.casework.proofs.context.fact_under.Goals as goal
 
-pub premises_of-requires : goal.premises_of-requires
-premises_of-requires c = recalled c.requires.0.recalls c.requires.1
-
 pub substitute_all-requires : goal.substitute_all-requires
-substitute_all-requires c = rw c.premises_of.ensures (under_asks c.requires.0 c.requires.1 c.requires.2)
+substitute_all-requires c = rw c.premises.ensures (under_asks c.requires.0 c.requires.1 c.requires.2)
 
 pub returns-in_err-substitute_all-clause-under_as : goal.returns-in_err-substitute_all-clause-under_as
 returns-in_err-substitute_all-clause-under_as c = λ g.
     let p = err_from_is_err_and c.from_residual.result c.from_residual.ensures.1 in
-    rw (p.1, p.2) (premises_stop g c.requires.1 c.args.map.now (rw c.premises_of.ensures at c.in_err-substitute_all.ensures.replaced_as))
+    rw (p.1, p.2) (premises_stop g c.requires.1 c.args.map.now (rw c.premises.ensures at c.in_err-substitute_all.ensures.replaced_as))
 
 pub judgment-requires : goal.judgment-requires
 judgment-requires c = fact_asks c.requires.0.recalls.recorded c.requires.1
@@ -31,12 +28,9 @@ substitute-requires-clause-id_in_bounds c =
 pub returns-in_err-judgment-clause-under_as : goal.returns-in_err-judgment-clause-under_as
 returns-in_err-judgment-clause-under_as c = λ g.
     let p = err_from_is_err_and c.from_residual-in_err-judgment.result c.from_residual-in_err-judgment.ensures.1 in
-    let r = rw c.premises_of.ensures at c.in_ok-substitute_all.ensures.replaced_as in
+    let r = rw c.premises.ensures at c.in_ok-substitute_all.ensures.replaced_as in
     rw (p.1, p.2) (judgment_stop g c.requires.1 c.args.map.now r c.judgment.ensures
     (under_stopped r.went.grown c.args.map.now c.requires.0.cells.bound (judgment_small c.requires.0 c.requires.1 c.judgment.ensures) c.substitute.ensures.kept c.in_err-judgment.was))
-
-pub general_of-requires : goal.general_of-requires
-general_of-requires c = recalled c.requires.0.recalls c.requires.1
 
 pub allow-requires : goal.allow-requires
 allow-requires c =
@@ -49,10 +43,10 @@ allow-requires c =
 
 pub returns-clause-under_as : goal.returns-clause-under_as
 returns-clause-under_as c = λ g.
-    let r = rw c.premises_of.ensures at c.in_ok-substitute_all.ensures.replaced_as in
+    let r = rw c.premises.ensures at c.in_ok-substitute_all.ensures.replaced_as in
     let s = judgment_small c.requires.0 c.requires.1 c.judgment.ensures in
     let w = under_went r.went.grown c.args.map.now c.requires.0.cells.bound s c.substitute.ensures.kept c.in_ok-judgment.was in
     let t = under_there r.went.grown c.args.map.now c.requires.0.cells.bound s c.substitute.ensures.kept c.in_ok-judgment.was in (
-      under_read g c.requires.1 c.args.map.now r c.judgment.ensures c.in_ok-judgment.judgment w (c.general_of.ensures ∙ general_is g c.requires.1) (c.allow.ensures.adds (compared _ g r w.grown t)),
+      under_read g c.requires.1 c.args.map.now r c.judgment.ensures c.in_ok-judgment.judgment w (c.general.ensures ∙ general_is g c.requires.1) (c.allow.ensures.adds (compared _ g r w.grown t)),
       c.allow.ensures.own,
     )

@@ -9,8 +9,8 @@ pub returns-then-judgment-allowing : goal.returns-then-judgment-allowing
 returns-then-judgment-allowing c = λ g. row_other g.recalls c.requires.1 _ _ g.judgment g.premises c.judgment.ensures c.if-judgment-allowing.true
 
 pub returns-then-eq : goal.returns-then-eq
-returns-then-eq c = λ g. row_so g.recalls c.requires.1 _ _ g.judgment g.premises (rw c.premises_of.ensures at c.eq.ensures) c.judgment.ensures c.if-judgment-allowing.false c.if-eq.true
-    (rw c.general_of.ensures at c.eq-then-eq.ensures)
+returns-then-eq c = λ g. row_so g.recalls c.requires.1 _ _ g.judgment g.premises (rw c.premises.ensures at c.eq.ensures) c.judgment.ensures c.if-judgment-allowing.false c.if-eq.true
+    (rw c.general.ensures at c.eq-then-eq.ensures)
 
 pub returns-else-eq : goal.returns-else-eq
-returns-else-eq c = λ g. row_else g.recalls c.requires.1 _ _ g.judgment g.premises (rw c.premises_of.ensures at c.eq.ensures) c.if-eq.false
+returns-else-eq c = λ g. row_else g.recalls c.requires.1 _ _ g.judgment g.premises (rw c.premises.ensures at c.eq.ensures) c.if-eq.false

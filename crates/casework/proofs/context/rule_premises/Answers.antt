@@ -4,7 +4,7 @@ use native.Mathlib.Omega.{arith}
 use Rattle.kernel.proofs.Handed.{handed}
 use Rattle.std.proofs.lemmas.Result.{err_from_is_err_and}
 use Rattle.referring.specs.Laws.Substitutes.{memo_asked}
-use Rattle.casework.proofs.Premises.{premising_start, premising_over, premising_first, premising_asks, premising_unbuilt, premising_there, premising_good, premising_replaces, premising_full, premising_small, premising_room, premising_more}
+use Rattle.casework.proofs.Premises.{premising_start, premising_over, premising_first, premising_asks, premising_unbuilt, premising_there, premising_good, premising_replaces, premising_full, premising_more}
 use Rattle.casework.proofs.context.rule_premises.Goals as goal
 
 none_yet : (many : ℕ) → many - 0 ≡ many
@@ -30,31 +30,24 @@ build-requires c = premising_asks c.requires.0.1 c.requires.1 (premising_first (
 pub returns-in_err-premise-clause-premises_as : goal.returns-in_err-premise-clause-premises_as
 returns-in_err-premise-clause-premises_as c = λ n g.
     rw (handed c.from_residual.result c.from_residual.ensures)
-    (premising_unbuilt g c.requires.1 (premising_first (c.loop.invariant.premising n g) (more_left c.loop-test.true)) c.build.ensures.built c.in_err-premise.was)
+    (premising_unbuilt g c.requires.1 (premising_first (c.loop.invariant.premising n g) (more_left c.loop-test.true)) c.in_err-premise.ensures.built)
 
 pub substitute-requires-clause-replaceable : goal.substitute-requires-clause-replaceable
 substitute-requires-clause-replaceable c =
     let h = premising_first (c.loop.invariant.premising _ c.requires.0.1) (more_left c.loop-test.true) in
-    premising_replaces c.requires.0.1 c.requires.1 h c.build.ensures.built c.in_ok-premise.was
+    premising_replaces c.requires.0.1 c.requires.1 h c.in_ok-premise.ensures.built
 
 pub substitute-requires-clause-id_in_bounds : goal.substitute-requires-clause-id_in_bounds
 substitute-requires-clause-id_in_bounds c =
     let h = premising_first (c.loop.invariant.premising _ c.requires.0.1) (more_left c.loop-test.true) in
-    memo_asked (premising_good c.requires.0.1 c.requires.1 h c.build.ensures.built c.in_ok-premise.was) c.requires.2 c.loop.invariant.memo_same
-    (premising_there c.requires.0.1 c.requires.1 h c.build.ensures.built c.in_ok-premise.was)
+    memo_asked (premising_good c.requires.0.1 c.requires.1 h c.in_ok-premise.ensures.built) c.requires.2 c.loop.invariant.memo_same
+    (premising_there c.requires.0.1 c.requires.1 h c.in_ok-premise.ensures.built)
 
 pub returns-in_err-t-clause-premises_as : goal.returns-in_err-t-clause-premises_as
 returns-in_err-t-clause-premises_as c = λ n g.
     let p = err_from_is_err_and c.from_residual-in_err-t.result c.from_residual-in_err-t.ensures.1 in
-    rw (p.1, p.2) (premising_full g c.requires.1 (premising_first (c.loop.invariant.premising n g) (more_left c.loop-test.true)) c.build.ensures.built c.in_ok-premise.was
+    rw (p.1, p.2) (premising_full g c.requires.1 (premising_first (c.loop.invariant.premising n g) (more_left c.loop-test.true)) c.in_ok-premise.ensures.built
     c.substitute.ensures.kept c.in_err-t.was)
-
-pub insert-requires : goal.insert-requires
-insert-requires c =
-    let h = premising_first (c.loop.invariant.premising _ c.requires.0.1) (more_left c.loop-test.true) in
-    let l = premising_small c.requires.0.1 c.requires.1 h c.build.ensures.built c.in_ok-premise.was c.substitute.ensures.kept c.in_ok-t.was in
-    let r = premising_room c.requires.0.1 c.requires.1 h c.build.ensures.built c.in_ok-premise.was c.substitute.ensures.kept c.in_ok-t.was in
-    omega (arith, l, r.room)
 
 pub loop-preserved : goal.loop-preserved
 loop-preserved c =
@@ -68,7 +61,7 @@ loop-preserved c =
       own_same = i.own_same;
       fine_same = i.fine_same;
       premising = λ n g.
-          premising_more g c.requires.1 (premising_first (i.premising n g) (more_left c.loop-test.true)) c.build.ensures.built c.in_ok-premise.was c.substitute.ensures.kept
+          premising_more g c.requires.1 (premising_first (i.premising n g) (more_left c.loop-test.true)) c.in_ok-premise.ensures.built c.substitute.ensures.kept
           c.in_ok-t.was c.insert.ensures (omega (arith, c.loop-test.true));
     }
 

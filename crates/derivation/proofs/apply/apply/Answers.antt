@@ -41,8 +41,13 @@ returns-in_err-bindings-clause-derived_as c = λ g. rw (handed c.from_residual.r
 pub apply_on-requires : goal.apply_on-requires
 apply_on-requires c = record {
   reads = form_given c.requires.reads c.place-at.ensures c.index.ensures c.in-Some.is c.nth.ensures c.in-List.is _ _ _ c.in_ok-bindings.ensures.bindings_as;
-  theta = ((form_read c.requires.reads c.place-at.ensures c.index.ensures c.in-Some.is c.nth.ensures c.in-List.is _ _ _ c.in_ok-bindings.ensures.bindings_as).cells, c.requires.memo_value);
+  theta = (
+    (form_read c.requires.reads c.place-at.ensures c.index.ensures c.in-Some.is c.nth.ensures c.in-List.is _ _ _
+        c.in_ok-bindings.ensures.bindings_as).cells,
+    c.requires.memo_value,
+  );
 }
 
 pub returns-clause-derived_as : goal.returns-clause-derived_as
-returns-clause-derived_as c = λ g. form_answers g c.place-at.ensures c.index.ensures c.in-Some.is c.nth.ensures c.in-List.is _ _ _ c.in_ok-bindings.ensures.bindings_as _ _ _ _ c.apply_on.ensures.derived_as
+returns-clause-derived_as c = λ g. form_answers g c.place-at.ensures c.index.ensures c.in-Some.is c.nth.ensures c.in-List.is _ _ _
+    c.in_ok-bindings.ensures.bindings_as _ _ _ _ c.apply_on.ensures.derived_as

@@ -14,7 +14,11 @@ pub overflow_add-result : goal.overflow_add-result
 overflow_add-result c = omega (arith, own_inside c.requires.0 c.is_assumed.ensures c.if-is_assumed.true c.premises-own.ensures c.requires.1, rule_lists_lem c.requires.0)
 
 pub offset_bounds-facts-own : goal.offset_bounds-facts-own
-offset_bounds-facts-own c = omega (arith, own_inside c.requires.0 c.is_assumed.ensures c.if-is_assumed.true c.premises-own.ensures c.requires.1, rule_lists_lem c.requires.0)
+offset_bounds-facts-own c = omega (
+  arith,
+  own_inside c.requires.0 c.is_assumed.ensures c.if-is_assumed.true c.premises-own.ensures c.requires.1,
+  rule_lists_lem c.requires.0,
+)
 
 pub bounds-facts-own : goal.bounds-facts-own
 bounds-facts-own c = own_inside c.requires.0 c.is_assumed.ensures c.if-is_assumed.true c.premises-own.ensures c.requires.1
@@ -29,7 +33,11 @@ pub overflow_add-own : goal.overflow_add-own
 overflow_add-own c = omega (arith, rests_inside c.requires.0 c.is_assumed.ensures c.if-is_assumed.false c.hyps-own.ensures c.requires.1, rule_lists_lem c.requires.0)
 
 pub offset_bounds-facts-own-2 : goal.offset_bounds-facts-own-2
-offset_bounds-facts-own-2 c = omega (arith, rests_inside c.requires.0 c.is_assumed.ensures c.if-is_assumed.false c.hyps-own.ensures c.requires.1, rule_lists_lem c.requires.0)
+offset_bounds-facts-own-2 c = omega (
+  arith,
+  rests_inside c.requires.0 c.is_assumed.ensures c.if-is_assumed.false c.hyps-own.ensures c.requires.1,
+  rule_lists_lem c.requires.0,
+)
 
 pub bounds-facts-own-2 : goal.bounds-facts-own-2
 bounds-facts-own-2 c = rests_inside c.requires.0 c.is_assumed.ensures c.if-is_assumed.false c.hyps-own.ensures c.requires.1

@@ -1,7 +1,6 @@
 use mathlib.Core.Path.{refl, ap, ◌∙◌}
-use mathlib.Core.Bool.{not}
 use native.Mathlib.Omega.{arith}
-use lib.ListN.{length, length-set}
+use lib.ListN.{length-set}
 use Rattle.std.specs.Iterator.Adapters.{enumerate_source, enumerate_count}
 use Rattle.sexp.specs.declared.items.Each.{Each}
 use Rattle.referring.specs.declared.support.Support.{Support}

@@ -1,8 +1,8 @@
-use Rattle.derivation.proofs.StepRule.{by_there, by_small, by_atom, by_part, by_count, by_given, by_room, by_few_items, by_refused, by_scopes, by_answer}
+use Rattle.derivation.proofs.StepRule.{by_atom, by_part, by_count, by_given, by_room, by_few_items, by_refused, by_scopes, by_answer}
 use Rattle.kernel.proofs.Handed.{handed}
 use Rattle.sexp.specs.NthItem.{has_items}
 use native.Mathlib.Omega.{arith}
-use mathlib.Core.Path.{refl, sym, ◌∙◌}
+use mathlib.Core.Path.{sym}
 use lib.Seq.{length-take-le}
 use Rattle.derivation.proofs.step.step_by.Goals as goal
 

@@ -1,135 +1,40 @@
-use mathlib.Core.Path.{refl, ◌∙◌}
-use Prim.Native.Nat.{◌-◌, ◌*◌}
-use native.Mathlib.Omega.{arith}
-use lib.ListN.{length}
-use borrow.Rule.Slice.PartMut.{same_len_mid}
-use Rattle.state.specs.Held.{records}
-use Rattle.state.specs.VarLaws.{vars_long}
-use Rattle.entering.proofs.Inverting.{invert_putting, invert_entered, invert_full, invert_halted}
+use Rattle.std.specs.Prelude.{refl, replicate}
+use Rattle.std.proofs.lemmas.Result.{err_from_is_err_and}
+use Rattle.rules.specs.Limits.{VARIABLES}
+use Rattle.entering.proofs.Inverting.{invert_halted, invert_putting, invert_full, invert_entered, invert_held, invert_makes}
 use Rattle.entering.proofs.derive.add_invert.Goals as goal
 
-pub invert-requires : goal.invert-requires
-invert-requires c = record { invert_form = c.requires.adds_inversion.form; blank = (record { map_zero = refl; memo_zero = c.requires.spare.memo_zero; no_hyps = refl; no_footing = refl }, refl, refl, c.requires.spare.ids_zero) }
+pub returns-in_err-inverted-clause-inverted : goal.returns-in_err-inverted-clause-inverted
+returns-in_err-inverted-clause-inverted c =
+    let p = err_from_is_err_and c.from_residual.result c.from_residual.ensures.1 in
+    let f = rw c.source_of-source.ensures at c.in_err-inverted.ensures.inverted_as in
+    λ x. rw (p.1, p.2) (invert_halted c.args.given.now c.args.board.now c.args.store.now c.invert.new.store c.args.cells.now (replicate VARIABLES 0) c.invert.new.sorts x _ f)
 
-pub enter-requires : goal.enter-requires
-enter-requires c = record {
-  putting = invert_putting c.requires.adds_inversion c.invert.new.index
-      c.invert.new.words
-      c.invert.new.hyps
-      c.invert.new.footing c.invert.new.vars
-      c.invert.result (c.invert.ensures.inverted_as c.requires.adds_inversion.form) c.in-Ok.is;
-  hyps_value = (
-    omega (arith, c.invert.auto.hyps),
-    omega
-        (arith, c.invert.auto.footing),
-  );
-}
+pub enter_derived-requires : goal.enter_derived-requires
+enter_derived-requires c =
+    let f = rw c.source_of-source.ensures at c.in_ok-inverted.ensures.inverted_as in
+    invert_putting c.args.given.now c.args.board.now c.args.store.now c.invert.new.store c.args.cells.now (replicate VARIABLES 0) c.invert.new.sorts c.requires.adds_inversion _ f
 
-pub overflow_mul-from : goal.overflow_mul-from
-overflow_mul-from c = omega (arith, c.requires.adds_inversion.form.refers.reads.spelling.vars.stand.few)
+pub returns-in_err-enter_derived-clause-inverted : goal.returns-in_err-enter_derived-clause-inverted
+returns-in_err-enter_derived-clause-inverted c =
+    let p = err_from_is_err_and c.from_residual-in_err-enter_derived.result c.from_residual-in_err-enter_derived.ensures.1 in
+    let f = rw c.source_of-source.ensures at c.in_ok-inverted.ensures.inverted_as in
+    λ x. rw (p.1, p.2)
+    (invert_full c.args.given.now c.args.board.now c.args.store.now c.invert.new.store c.args.cells.now (replicate VARIABLES 0) c.invert.new.sorts x _ f
+    c.enter_derived.new.board c.enter_derived.ensures.only _ c.in_err-enter_derived.ensures.enter_as)
 
-pub offset_bounds-vars-from : goal.offset_bounds-vars-from
-offset_bounds-vars-from c = omega (arith, c.requires.adds_inversion.form.refers.reads.spelling.vars.stand.few)
+pub put_made-requires : goal.put_made-requires
+put_made-requires c =
+    let f = rw c.source_of-source.ensures at c.in_ok-inverted.ensures.inverted_as in
+    invert_makes c.args.given.now c.args.board.now c.args.store.now c.invert.new.store c.args.cells.now (replicate VARIABLES 0) c.invert.new.sorts c.requires.adds_inversion _ f
+    c.enter_derived.new.board c.enter_derived.ensures.only c.in_ok-enter_derived.ensures.enter_as c.invert.auto.sorts
 
-pub slice_bounds-clear-count : goal.slice_bounds-clear-count
-slice_bounds-clear-count c = omega (
-  arith,
-  c.requires.adds_inversion.form.refers.reads.spelling.vars.stand.few,
-  vars_long c.requires.adds_inversion.form.refers.reads.spelling.vars.stand,
-  c.invert.auto.vars,
-)
-
-pub slice_bounds-clear-start : goal.slice_bounds-clear-start
-slice_bounds-clear-start c = omega (
-  arith,
-  c.requires.adds_inversion.form.refers.reads.spelling.vars.stand.few,
-  vars_long c.requires.adds_inversion.form.refers.reads.spelling.vars.stand,
-  c.invert.auto.vars,
-)
-
-pub shape_of-vars-in-Ok-enter : goal.shape_of-vars-in-Ok-enter
-shape_of-vars-in-Ok-enter c = c.invert.auto.vars
-
-pub shape_of-facts-in-Ok-enter : goal.shape_of-facts-in-Ok-enter
-shape_of-facts-in-Ok-enter c = c.enter.auto.facts
-
-pub shape_of-footings-in-Ok-enter : goal.shape_of-footings-in-Ok-enter
-shape_of-footings-in-Ok-enter c = c.enter.auto.footings
-
-pub shape_of-lists-in-Ok-enter : goal.shape_of-lists-in-Ok-enter
-shape_of-lists-in-Ok-enter c = c.enter.auto.lists
-
-pub shape_of-index-in-Ok-enter : goal.shape_of-index-in-Ok-enter
-shape_of-index-in-Ok-enter c = c.invert.auto.index
-
-pub shape_of-words-in-Ok-enter : goal.shape_of-words-in-Ok-enter
-shape_of-words-in-Ok-enter c = c.invert.auto.words
-
-pub shape_of-ids-in-Ok-enter : goal.shape_of-ids-in-Ok-enter
-shape_of-ids-in-Ok-enter c = c.invert.auto.ids
-
-pub shape_of-memo-in-Ok-enter : goal.shape_of-memo-in-Ok-enter
-shape_of-memo-in-Ok-enter c = c.invert.auto.memo
-
-pub returns-in-Ok-enter : goal.returns-in-Ok-enter
-returns-in-Ok-enter c = record {
-  inversion_as = λ g. invert_entered g c.invert.new.index
-      c.invert.new.words
-      c.invert.new.hyps
-      c.invert.new.footing c.invert.new.vars
-      c.invert.result (c.invert.ensures.inverted_as g.form) c.in-Ok.is
-      (omega (arith, c.invert.auto.footing)) c.enter.ensures.words
-      (records c.enter.new.facts c.enter.new.footings c.enter.new.lists) c.enter.result c.enter.ensures.enter_as c.in-Ok-enter.is;
-  ids_unchanged = (c.invert.ensures.map_unchanged.4, c.invert.ensures.map_unchanged.1);
-}
-
-pub shape_of-vars-in-No-enter : goal.shape_of-vars-in-No-enter
-shape_of-vars-in-No-enter c = same_len_mid (4 * c.args.n.vars) (length c.invert.new.vars - 4 * c.args.n.vars)
-    c.invert.new.vars c.clear.new.cells c.clear.auto.cells ∙ c.invert.auto.vars
-
-pub shape_of-facts-in-No-enter : goal.shape_of-facts-in-No-enter
-shape_of-facts-in-No-enter c = c.enter.auto.facts
-
-pub shape_of-footings-in-No-enter : goal.shape_of-footings-in-No-enter
-shape_of-footings-in-No-enter c = c.enter.auto.footings
-
-pub shape_of-lists-in-No-enter : goal.shape_of-lists-in-No-enter
-shape_of-lists-in-No-enter c = c.enter.auto.lists
-
-pub shape_of-index-in-No-enter : goal.shape_of-index-in-No-enter
-shape_of-index-in-No-enter c = c.invert.auto.index
-
-pub shape_of-words-in-No-enter : goal.shape_of-words-in-No-enter
-shape_of-words-in-No-enter c = c.invert.auto.words
-
-pub shape_of-ids-in-No-enter : goal.shape_of-ids-in-No-enter
-shape_of-ids-in-No-enter c = c.invert.auto.ids
-
-pub shape_of-memo-in-No-enter : goal.shape_of-memo-in-No-enter
-shape_of-memo-in-No-enter c = c.invert.auto.memo
-
-pub returns-in-No-enter : goal.returns-in-No-enter
-returns-in-No-enter c = record {
-  inversion_as = λ g. invert_full g c.invert.new.index
-      c.invert.new.words
-      c.invert.new.hyps
-      c.invert.new.footing c.invert.new.vars
-      c.invert.result (c.invert.ensures.inverted_as g.form) c.in-Ok.is
-      (omega (arith, c.invert.auto.footing)) c.enter.ensures.words
-      (records c.enter.new.facts c.enter.new.footings c.enter.new.lists) c.enter.result c.enter.ensures.enter_as c.in-No-enter.is
-      c.clear.ensures;
-  ids_unchanged = (c.invert.ensures.map_unchanged.4, c.invert.ensures.map_unchanged.1);
-}
-
-pub shape_of-memo-in-No : goal.shape_of-memo-in-No
-shape_of-memo-in-No c = c.invert.auto.memo
-
-pub returns-in-No : goal.returns-in-No
-returns-in-No c = record {
-  inversion_as = λ g. invert_halted g c.invert.new.index
-      c.invert.new.words
-      c.invert.new.hyps
-      c.invert.new.footing c.invert.new.vars
-      c.invert.result (c.invert.ensures.inverted_as g.form) c.in-No.is;
-  ids_unchanged = (c.invert.ensures.map_unchanged.4, c.invert.ensures.map_unchanged.1);
-}
+pub returns-clause-inverted : goal.returns-clause-inverted
+returns-clause-inverted c =
+    let f = rw c.source_of-source.ensures at c.in_ok-inverted.ensures.inverted_as in
+    let w = c.in_ok-enter_derived.ensures.words in
+    λ x. invert_entered c.args.given.now c.args.board.now c.args.store.now c.invert.new.store c.args.cells.now (replicate VARIABLES 0) c.invert.new.sorts x _ f
+    c.enter_derived.new.board _ w.0 w.1 c.in_ok-enter_derived.ensures.enter_as
+    (c.put_made.ensures _ _ _
+    (invert_held c.args.given.now c.args.board.now c.args.store.now c.invert.new.store c.args.cells.now (replicate VARIABLES 0) c.invert.new.sorts x _ f
+    c.enter_derived.new.board c.enter_derived.ensures.only c.in_ok-enter_derived.ensures.enter_as)) _ (rw c.no_counts.ensures refl)

@@ -4,5 +4,5 @@ use Rattle.rules.specs.Find.{rising}
 use Rattle.rules.specs.Limits.{FACTS}
 use Rattle.induction.proofs.induct.judgments_of.Given as goal
 
-abbrev pub invariant-loop-k : goal.invariant-loop-k
-invariant-loop-k l = Judged l.facts (rising FACTS (holds l.hyps)) l.out l.count l.k
+abbrev pub invariant-loop-cell : goal.invariant-loop-cell
+invariant-loop-cell l = Judged l.rows (rising FACTS (holds l.hyps)) l.cell-items l.cell-index

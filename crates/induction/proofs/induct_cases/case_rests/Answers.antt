@@ -1,26 +1,18 @@
-use Rattle.induction.proofs.Inducts.{rest_with, rest_inside, rest_ids, rest_without}
-use lib.Seq.{length-take-le}
-use mathlib.Core.Path.{sym}
+use Rattle.induction.proofs.Inducts.{plain_with, plain_without, rest_given}
+use Rattle.induction.proofs.induct_cases.case_rests.Goals.{then-rows-eq0, else-rows-eq0}
 use Rattle.induction.proofs.induct_cases.case_rests.Goals as goal
 
-pub slice_bounds-insert_all-end : goal.slice_bounds-insert_all-end
-slice_bounds-insert_all-end c = sym (length-take-le _ _ (rest_inside c.requires c.if-width-eq0.true))
-
-pub insert_all-requires : goal.insert_all-requires
-insert_all-requires c = rest_ids c.requires c.if-width-eq0.true
-
 pub case_fact-requires : goal.case_fact-requires
-case_fact-requires c = rest_without c.requires c.if-width-eq0.true c.insert_all.new.set c.insert_all.auto.set c.insert_all.ensures
-
-pub shape_of-plain-then-width-eq0 : goal.shape_of-plain-then-width-eq0
-shape_of-plain-then-width-eq0 c = c.insert_all.auto.set
-
-pub returns-then-width-eq0 : goal.returns-then-width-eq0
-returns-then-width-eq0 c = λ g. c.case_fact.ensures (rest_without g c.if-width-eq0.true c.insert_all.new.set c.insert_all.auto.set c.insert_all.ensures)
-    g.there
-
-pub case_fact-requires-2 : goal.case_fact-requires-2
-case_fact-requires-2 c = rest_with c.requires c.if-width-eq0.false
+case_fact-requires c = rest_given c.requires _ c.if-rows-eq0.auto.plain
+    (elim c.if-rows-eq0.branch [
+      | then-rows-eq0 w ↦ λ t l. rw w.plain-is (plain_without c.requires w.if-rows-eq0.true _ w.insert_all.ensures t l)
+      | else-rows-eq0 w ↦ λ t l. rw w.plain-is (plain_with c.requires w.if-rows-eq0.false t l)
+    ])
 
 pub returns : goal.returns
-returns c = λ g. c.case_fact-2.ensures (rest_with g c.if-width-eq0.false) g.there
+returns c = λ g. c.case_fact.ensures
+    (rest_given g _ c.if-rows-eq0.auto.plain
+    (elim c.if-rows-eq0.branch [
+      | then-rows-eq0 w ↦ λ t l. rw w.plain-is (plain_without g w.if-rows-eq0.true _ w.insert_all.ensures t l)
+      | else-rows-eq0 w ↦ λ t l. rw w.plain-is (plain_with g w.if-rows-eq0.false t l)
+    ])) g.there

@@ -1,10 +1,9 @@
+use mathlib.Core.Path.{◌≡◌}
 use Rattle.induction.proofs.CaseNames.{NamesOf}
-use lib.ListN.{length}
-use Prim.Native.Nat.{◌-◌}
 use Rattle.induction.proofs.induct_cases.case_vars.Given as goal
 
-abbrev pub invariant-loop-at : goal.invariant-loop-at
-invariant-loop-at l = NamesOf l.goals l.text l.vars l.count l.sorts l.used l.cells l.out l.seen l.k l.at
-
-abbrev pub decreases-loop-at : goal.decreases-loop-at
-decreases-loop-at l = length l.cells - l.at
+abbrev pub invariant-loop-k : goal.invariant-loop-k
+invariant-loop-k l = record {
+  cells : l.k-iterator.iter.cells.now ≡ l.cells;
+  names : NamesOf l.reader.goals.now l.reader.text.now l.reader.vars.now l.reader.n.vars l.sorts l.used l.cells l.own l.seen l.k-iterator.count l.k-iterator.iter.at;
+}

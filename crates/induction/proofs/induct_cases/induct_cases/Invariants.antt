@@ -1,10 +1,16 @@
-use Rattle.induction.proofs.CaseLoop.{CasesOf}
+use mathlib.Core.Path.{◌≡◌}
 use lib.ListN.{length}
-use Prim.Native.Nat.{◌-◌}
+use Rattle.terms.specs.Lent.{SameTables}
+use Rattle.reading.specs.Reader.{names_of}
+use Rattle.induction.proofs.CaseLoop.{CasesOf}
 use Rattle.induction.proofs.induct_cases.induct_cases.Given as goal
 
-abbrev pub invariant-loop-at : goal.invariant-loop-at
-invariant-loop-at l = CasesOf l.goals l.text l.symbols l.inputs l.vars l.facts l.lists l.n l.initial.index l.initial.words l.initial.m l.x l.sort l.judgment l.premises l.used l.cells l.initial.map l.initial.memo l.initial.ids l.index l.words l.map l.memo l.ids l.m l.from l.at
-
-abbrev pub decreases-loop-at : goal.decreases-loop-at
-decreases-loop-at l = length l.cells - l.at
+abbrev pub invariant-loop-item : goal.invariant-loop-item
+invariant-loop-item l = record {
+  cells : l.item-iterator.cells.now ≡ l.cells;
+  same : SameTables l.initial.store l.store;
+  memo : l.memo ≡ l.initial.memo;
+  ids : length l.ids ≡ length l.initial.ids;
+  cases : CasesOf (names_of l.source.reader) l.source.rows.now l.source.footings.now l.source.lists.now l.source.reader.n l.initial.store.index.now l.initial.store.words.now
+      l.initial.store.mark l.motive.x l.motive.sort l.motive.judgment l.motive.premises.now l.used l.cells l.store.index.now l.store.words.now l.store.mark l.from l.item-iterator.at;
+}

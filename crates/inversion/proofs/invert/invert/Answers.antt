@@ -1,223 +1,74 @@
-use mathlib.Core.Path.{refl, ap, ◌∙◌}
+use mathlib.Core.Path.{refl, sym, ap, ◌∙◌}
 use Prim.Native.Nat.{ℕ}
 use native.Mathlib.Omega.{arith}
-use lib.ListN.{length, length-replicate}
-use Rattle.rules.specs.Limits.{FACTWORDS}
-use Rattle.inversion.proofs.InvertForms.{form_items, form_high, form_index, form_no_index, form_no_fact, form_fact, form_not_plain, form_hyps, form_no_hyps, form_judgment, form_no_judgment, form_on, form_refused, form_read, blank_empty, blank_again}
-use mathlib.Core.Bool.{not}
+use lib.ListN.{length, replicate, length-replicate}
+use lib.Seq.{length-take-le}
+use Rattle.std.proofs.lemmas.Result.{err_from_is_err_and}
+use Rattle.rules.specs.Limits.{FACTS}
+use Rattle.inversion.proofs.InvertForms.{form_naming, form_unnamed, form_fact, form_high, form_judgment, form_unjudged, form_on, form_refused, form_read, form_writes, form_few, form_front}
 use Rattle.inversion.proofs.invert.invert.Goals as goal
 
-pub place-at-requires : goal.place-at-requires
-place-at-requires c = form_items c.requires.invert_form
+pub hypothesis-requires : goal.hypothesis-requires
+hypothesis-requires c = (form_naming c.requires.inverts_form.0, ap (λ s. s.hyps) c.no_support-support.ensures)
 
-pub offset_bounds-cells-at : goal.offset_bounds-cells-at
-offset_bounds-cells-at c = omega (arith, form_high c.requires.invert_form 2 (omega arith) c.place-at.ensures, c.well_formed.1.1.1.1.1.1.1.1.1.1.1.1.1.1.1.1.1.0.1)
-
-pub slice_bounds-index-count : goal.slice_bounds-index-count
-slice_bounds-index-count c = form_high c.requires.invert_form 2 (omega arith) c.place-at.ensures
-
-pub slice_bounds-index-start : goal.slice_bounds-index-start
-slice_bounds-index-start c = form_high c.requires.invert_form 2 (omega arith) c.place-at.ensures
-
-pub index-requires : goal.index-requires
-index-requires c = form_index c.requires.invert_form c.place-at.ensures
-
-pub returns-in_default : goal.returns-in_default
-returns-in_default c = record { inverted_as = λ g. (form_no_index g c.place-at.ensures c.index.ensures c.in_default.is, refl); map_unchanged = (refl, refl, refl, refl, refl) }
-
-pub returns-then-not-is_fact : goal.returns-then-not-is_fact
-returns-then-not-is_fact c = record { inverted_as = λ g. (form_no_fact g c.place-at.ensures c.index.ensures c.in-Some.is c.is_fact.ensures (ap not c.if-not-is_fact.true), refl); map_unchanged = (refl, refl, refl, refl, refl) }
-
-pub is_plain-requires : goal.is_plain-requires
-is_plain-requires c = form_fact c.requires.invert_form c.place-at.ensures c.index.ensures c.in-Some.is c.is_fact.ensures (ap not c.if-not-is_fact.false)
-
-pub returns-then-not-is_plain : goal.returns-then-not-is_plain
-returns-then-not-is_plain c = record {
-  inverted_as = λ g. (
-    form_not_plain g c.place-at.ensures c.index.ensures c.in-Some.is c.is_fact.ensures (ap not c.if-not-is_fact.false) c.is_plain.ensures
-        (ap not c.if-not-is_plain.true),
-    refl,
-  );
-  map_unchanged = (refl, refl, refl, refl, refl);
-}
-
-pub place-third-requires : goal.place-third-requires
-place-third-requires c = form_items c.requires.invert_form
-
-pub offset_bounds-cells-third : goal.offset_bounds-cells-third
-offset_bounds-cells-third c = omega (arith, form_high c.requires.invert_form 3 (omega arith) c.place-third.ensures, c.well_formed.1.1.1.1.1.1.1.1.1.1.1.1.1.1.1.1.1.0.1)
-
-pub slice_bounds-any_hyps-count : goal.slice_bounds-any_hyps-count
-slice_bounds-any_hyps-count c = form_high c.requires.invert_form 3 (omega arith) c.place-third.ensures
-
-pub slice_bounds-any_hyps-start : goal.slice_bounds-any_hyps-start
-slice_bounds-any_hyps-start c = form_high c.requires.invert_form 3 (omega arith) c.place-third.ensures
-
-pub any_hyps-requires : goal.any_hyps-requires
-any_hyps-requires c = (
-  form_hyps c.requires.invert_form c.place-at.ensures c.index.ensures c.in-Some.is c.is_fact.ensures (ap not c.if-not-is_fact.false) c.is_plain.ensures (ap not c.if-not-is_plain.false)
-      c.place-third.ensures,
-  c.requires.blank.0.no_hyps,
-)
-
-pub shape_of-hyps-in-No : goal.shape_of-hyps-in-No
-shape_of-hyps-in-No c = c.any_hyps.auto.set
-
-pub returns-in-No : goal.returns-in-No
-returns-in-No c = record {
-  inverted_as = λ g. (
-    form_no_hyps g c.place-at.ensures c.index.ensures c.in-Some.is c.is_fact.ensures (ap not c.if-not-is_fact.false) c.is_plain.ensures (ap not c.if-not-is_plain.false)
-        c.place-third.ensures c.args.hyps.now c.any_hyps.new.set c.any_hyps.result c.any_hyps.ensures c.in-No.is,
-    refl,
-  );
-  map_unchanged = (refl, refl, refl, refl, refl);
-}
-
-pub place-fourth-requires : goal.place-fourth-requires
-place-fourth-requires c = form_items c.requires.invert_form
+pub returns-in_err-fact-clause-inverted_as : goal.returns-in_err-fact-clause-inverted_as
+returns-in_err-fact-clause-inverted_as c = λ g. let p = err_from_is_err_and c.from_residual.result c.from_residual.ensures.1 in
+    rw (p.1, p.2) (form_unnamed g c.in_err-fact.ensures, refl)
 
 pub offset_bounds-cells-fourth : goal.offset_bounds-cells-fourth
-offset_bounds-cells-fourth c = omega (arith, form_high c.requires.invert_form 4 (omega arith) c.place-fourth.ensures, c.well_formed.1.1.1.1.1.1.1.1.1.1.1.1.1.1.1.1.1.0.1)
+offset_bounds-cells-fourth c = omega (arith, form_high c.requires.inverts_form.0 c.in_ok-fact.ensures c.place-fourth.ensures, c.well_formed)
 
 pub slice_bounds-judgment-count : goal.slice_bounds-judgment-count
-slice_bounds-judgment-count c = form_high c.requires.invert_form 4 (omega arith) c.place-fourth.ensures
+slice_bounds-judgment-count c = form_high c.requires.inverts_form.0 c.in_ok-fact.ensures c.place-fourth.ensures
 
 pub slice_bounds-judgment-start : goal.slice_bounds-judgment-start
-slice_bounds-judgment-start c = form_high c.requires.invert_form 4 (omega arith) c.place-fourth.ensures
+slice_bounds-judgment-start c = form_high c.requires.inverts_form.0 c.in_ok-fact.ensures c.place-fourth.ensures
 
 pub judgment-requires : goal.judgment-requires
-judgment-requires c = form_judgment c.requires.invert_form c.place-at.ensures c.index.ensures c.in-Some.is c.is_fact.ensures (ap not c.if-not-is_fact.false) c.is_plain.ensures (ap not c.if-not-is_plain.false)
-    c.place-third.ensures c.args.hyps.now c.any_hyps.new.set c.any_hyps.result c.any_hyps.ensures c.in-Ok.is
-    c.place-fourth.ensures
+judgment-requires c = form_judgment c.requires.inverts_form.0 c.in_ok-fact.ensures c.place-fourth.ensures
 
-pub judgment-s-requires : goal.judgment-s-requires
-judgment-s-requires c = form_fact c.requires.invert_form c.place-at.ensures c.index.ensures c.in-Some.is c.is_fact.ensures (ap not c.if-not-is_fact.false)
+pub returns-in_err-judgment-clause-inverted_as : goal.returns-in_err-judgment-clause-inverted_as
+returns-in_err-judgment-clause-inverted_as c = λ g. let p = err_from_is_err_and c.from_residual-in_err-judgment.result c.from_residual-in_err-judgment.ensures.1 in
+    rw (p.1, p.2) (form_unjudged g c.in_ok-fact.ensures (c.in_err-judgment.ensures.read_as (form_judgment g c.in_ok-fact.ensures c.place-fourth.ensures)), refl)
 
-pub invert_on-requires : goal.invert_on-requires
-invert_on-requires c = record {
-  inverting_on = form_on c.requires.invert_form c.place-at.ensures c.index.ensures c.in-Some.is c.is_fact.ensures (ap not c.if-not-is_fact.false) c.is_plain.ensures (ap not c.if-not-is_plain.false)
-      c.place-third.ensures c.args.hyps.now c.any_hyps.new.set c.any_hyps.result c.any_hyps.ensures c.in-Ok.is
-      c.place-fourth.ensures c.judgment.new.index c.judgment.new.words c.judgment.result
-      c.judgment.ensures c.in-Ok-judgment.is c.judgment-s.ensures
-      (c.any_hyps.auto.set ∙ ap length c.requires.blank.0.no_hyps ∙ length-replicate {A = ℕ} FACTWORDS 0);
-  empty = blank_empty
-      c.args.ids.now c.requires.blank;
-}
+pub write_out-many-requires-clause-set_in_bounds : goal.write_out-many-requires-clause-set_in_bounds
+write_out-many-requires-clause-set_in_bounds c =
+    form_writes c.requires.inverts_form.0 c.in_ok-fact.ensures (c.hypothesis.auto.hyps ∙ ap (λ s. length s.hyps) c.no_support-support.ensures) (replicate FACTS 0) (length-replicate {A = ℕ} FACTS 0)
+
+pub judgment-requires-2 : goal.judgment-requires-2
+judgment-requires-2 c = form_fact c.requires.inverts_form.0 c.in_ok-fact.ensures
+
+pub slice_bounds-list-end : goal.slice_bounds-list-end
+slice_bounds-list-end c =
+    form_few c.requires.inverts_form.0 c.in_ok-fact.ensures (c.hypothesis.auto.hyps ∙ ap (λ s. length s.hyps) c.no_support-support.ensures) (replicate FACTS 0) (length-replicate {A = ℕ} FACTS 0) c.write_out-many.ensures
+
+pub slice_bounds-inverting-end : goal.slice_bounds-inverting-end
+slice_bounds-inverting-end c = sym (length-take-le _ _
+    (form_few c.requires.inverts_form.0 c.in_ok-fact.ensures (c.hypothesis.auto.hyps ∙ ap (λ s. length s.hyps) c.no_support-support.ensures) (replicate FACTS 0) (length-replicate {A = ℕ} FACTS 0) c.write_out-many.ensures))
+
+pub invert_on-requires-clause-inverts_on : goal.invert_on-requires-clause-inverts_on
+invert_on-requires-clause-inverts_on c =
+    let g = c.requires.inverts_form.0 in
+    let h = c.in_ok-fact.ensures in
+    let j = c.in_ok-judgment.ensures.read_as (form_judgment g h c.place-fourth.ensures) in
+    (form_on g h j c.judgment-2.ensures (form_front g h (c.hypothesis.auto.hyps ∙ ap (λ s. length s.hyps) c.no_support-support.ensures) (replicate FACTS 0) (length-replicate {A = ℕ} FACTS 0) c.write_out-many.ensures), c.requires.inverts_form.1)
+
+pub returns-in_err-vars-clause-inverted_as : goal.returns-in_err-vars-clause-inverted_as
+returns-in_err-vars-clause-inverted_as c = λ g.
+    let h = c.in_ok-fact.ensures in
+    let j = c.in_ok-judgment.ensures.read_as (form_judgment g h c.place-fourth.ensures) in
+    let e = form_front g h (c.hypothesis.auto.hyps ∙ ap (λ s. length s.hyps) c.no_support-support.ensures) (replicate FACTS 0) (length-replicate {A = ℕ} FACTS 0) c.write_out-many.ensures in
+    let z = c.in_err-vars.ensures.inverted_on_as (form_on g h j c.judgment-2.ensures e) in
+    let p = err_from_is_err_and c.from_residual-in_err-vars.result c.from_residual-in_err-vars.ensures.1 in
+    rw (p.1, p.2) (form_refused g h j c.judgment-2.ensures e z.0, z.1)
 
 pub insert-requires : goal.insert-requires
-insert-requires c = omega (
-  arith,
-  (form_fact c.requires.invert_form c.place-at.ensures c.index.ensures c.in-Some.is c.is_fact.ensures (ap not c.if-not-is_fact.false)).1,
-  (c.any_hyps.auto.set ∙ ap length c.requires.blank.0.no_hyps ∙ length-replicate {A = ℕ} FACTWORDS 0),
-)
+insert-requires c = omega (arith, (form_fact c.requires.inverts_form.0 c.in_ok-fact.ensures).1, c.hypothesis.auto.hyps)
 
-pub shape_of-vars-in-Ok-invert_on : goal.shape_of-vars-in-Ok-invert_on
-shape_of-vars-in-Ok-invert_on c = c.invert_on.auto.vars
-
-pub shape_of-index-in-Ok-invert_on : goal.shape_of-index-in-Ok-invert_on
-shape_of-index-in-Ok-invert_on c = c.invert_on.auto.index ∙ c.judgment.auto.index
-
-pub shape_of-words-in-Ok-invert_on : goal.shape_of-words-in-Ok-invert_on
-shape_of-words-in-Ok-invert_on c = c.invert_on.auto.words ∙ c.judgment.auto.words
-
-pub shape_of-map-in-Ok-invert_on : goal.shape_of-map-in-Ok-invert_on
-shape_of-map-in-Ok-invert_on c = c.invert_on.auto.map
-
-pub shape_of-memo-in-Ok-invert_on : goal.shape_of-memo-in-Ok-invert_on
-shape_of-memo-in-Ok-invert_on c = c.invert_on.auto.memo
-
-pub shape_of-theta-in-Ok-invert_on : goal.shape_of-theta-in-Ok-invert_on
-shape_of-theta-in-Ok-invert_on c = c.invert_on.auto.theta
-
-pub shape_of-pairs-in-Ok-invert_on : goal.shape_of-pairs-in-Ok-invert_on
-shape_of-pairs-in-Ok-invert_on c = c.invert_on.auto.pairs
-
-pub shape_of-ids-in-Ok-invert_on : goal.shape_of-ids-in-Ok-invert_on
-shape_of-ids-in-Ok-invert_on c = c.invert_on.auto.ids
-
-pub shape_of-hyps-in-Ok-invert_on : goal.shape_of-hyps-in-Ok-invert_on
-shape_of-hyps-in-Ok-invert_on c = c.insert.auto.set ∙ c.any_hyps.auto.set
-
-pub returns-in-Ok-invert_on : goal.returns-in-Ok-invert_on
-returns-in-Ok-invert_on c = record {
-  inverted_as = λ g. form_read g c.place-at.ensures c.index.ensures c.in-Some.is c.is_fact.ensures (ap not c.if-not-is_fact.false) c.is_plain.ensures (ap not c.if-not-is_plain.false)
-      c.place-third.ensures c.args.hyps.now c.any_hyps.new.set c.any_hyps.result c.any_hyps.ensures c.in-Ok.is
-      c.place-fourth.ensures c.judgment.new.index c.judgment.new.words c.judgment.result
-      c.judgment.ensures c.in-Ok-judgment.is c.judgment-s.ensures
-      (c.any_hyps.auto.set ∙ ap length c.requires.blank.0.no_hyps ∙ length-replicate {A = ℕ} FACTWORDS 0)
-      c.invert_on.new.index c.invert_on.new.words
-      c.invert_on.new.vars c.invert_on.result c.invert_on.ensures.inverted_on_as c.in-Ok-invert_on.is c.insert.new.set
-      c.args.footing.now c.insert.ensures c.requires.blank.0.no_footing;
-  map_unchanged = blank_again c.args.ids.now c.requires.blank
-      c.invert_on.new.map
-      c.invert_on.new.memo
-      c.invert_on.new.theta
-      c.invert_on.new.pairs c.invert_on.ensures.empty_2;
-}
-
-pub shape_of-vars-in-No-invert_on : goal.shape_of-vars-in-No-invert_on
-shape_of-vars-in-No-invert_on c = c.invert_on.auto.vars
-
-pub shape_of-index-in-No-invert_on : goal.shape_of-index-in-No-invert_on
-shape_of-index-in-No-invert_on c = c.invert_on.auto.index ∙ c.judgment.auto.index
-
-pub shape_of-words-in-No-invert_on : goal.shape_of-words-in-No-invert_on
-shape_of-words-in-No-invert_on c = c.invert_on.auto.words ∙ c.judgment.auto.words
-
-pub shape_of-map-in-No-invert_on : goal.shape_of-map-in-No-invert_on
-shape_of-map-in-No-invert_on c = c.invert_on.auto.map
-
-pub shape_of-memo-in-No-invert_on : goal.shape_of-memo-in-No-invert_on
-shape_of-memo-in-No-invert_on c = c.invert_on.auto.memo
-
-pub shape_of-theta-in-No-invert_on : goal.shape_of-theta-in-No-invert_on
-shape_of-theta-in-No-invert_on c = c.invert_on.auto.theta
-
-pub shape_of-pairs-in-No-invert_on : goal.shape_of-pairs-in-No-invert_on
-shape_of-pairs-in-No-invert_on c = c.invert_on.auto.pairs
-
-pub shape_of-ids-in-No-invert_on : goal.shape_of-ids-in-No-invert_on
-shape_of-ids-in-No-invert_on c = c.invert_on.auto.ids
-
-pub shape_of-hyps-in-No-invert_on : goal.shape_of-hyps-in-No-invert_on
-shape_of-hyps-in-No-invert_on c = c.any_hyps.auto.set
-
-pub returns-in-No-invert_on : goal.returns-in-No-invert_on
-returns-in-No-invert_on c = record {
-  inverted_as = λ g. form_refused g c.place-at.ensures c.index.ensures c.in-Some.is c.is_fact.ensures (ap not c.if-not-is_fact.false) c.is_plain.ensures (ap not c.if-not-is_plain.false)
-      c.place-third.ensures c.args.hyps.now c.any_hyps.new.set c.any_hyps.result c.any_hyps.ensures c.in-Ok.is
-      c.place-fourth.ensures c.judgment.new.index c.judgment.new.words c.judgment.result
-      c.judgment.ensures c.in-Ok-judgment.is c.judgment-s.ensures
-      (c.any_hyps.auto.set ∙ ap length c.requires.blank.0.no_hyps ∙ length-replicate {A = ℕ} FACTWORDS 0)
-      c.invert_on.new.index c.invert_on.new.words
-      c.invert_on.new.vars c.invert_on.result c.invert_on.ensures.inverted_on_as c.in-No-invert_on.is;
-  map_unchanged = blank_again
-      c.args.ids.now c.requires.blank c.invert_on.new.map
-      c.invert_on.new.memo
-      c.invert_on.new.theta
-      c.invert_on.new.pairs c.invert_on.ensures.empty_2;
-}
-
-pub shape_of-vars-in-No-judgment : goal.shape_of-vars-in-No-judgment
-shape_of-vars-in-No-judgment c = refl
-
-pub shape_of-index-in-No-judgment : goal.shape_of-index-in-No-judgment
-shape_of-index-in-No-judgment c = c.judgment.auto.index
-
-pub shape_of-words-in-No-judgment : goal.shape_of-words-in-No-judgment
-shape_of-words-in-No-judgment c = c.judgment.auto.words
-
-pub shape_of-hyps-in-No-judgment : goal.shape_of-hyps-in-No-judgment
-shape_of-hyps-in-No-judgment c = c.any_hyps.auto.set
-
-pub returns-in-No-judgment : goal.returns-in-No-judgment
-returns-in-No-judgment c = record {
-  inverted_as = λ g. (
-    form_no_judgment g c.place-at.ensures c.index.ensures c.in-Some.is c.is_fact.ensures (ap not c.if-not-is_fact.false) c.is_plain.ensures (ap not c.if-not-is_plain.false)
-        c.place-third.ensures c.args.hyps.now c.any_hyps.new.set c.any_hyps.result c.any_hyps.ensures
-        c.in-Ok.is c.place-fourth.ensures c.judgment.new.index
-        c.judgment.new.words c.judgment.result c.judgment.ensures c.in-No-judgment.is,
-    refl,
-  );
-  map_unchanged = (refl, refl, refl, refl, refl);
-}
+pub returns-clause-inverted_as : goal.returns-clause-inverted_as
+returns-clause-inverted_as c = λ g.
+    let h = c.in_ok-fact.ensures in
+    let j = c.in_ok-judgment.ensures.read_as (form_judgment g h c.place-fourth.ensures) in
+    let e = form_front g h (c.hypothesis.auto.hyps ∙ ap (λ s. length s.hyps) c.no_support-support.ensures) (replicate FACTS 0) (length-replicate {A = ℕ} FACTS 0) c.write_out-many.ensures in
+    let z = c.in_ok-vars.ensures.inverted_on_as (form_on g h j c.judgment-2.ensures e) in
+    (form_read g h j c.judgment-2.ensures e z c.insert.ensures (ap (λ s. s.footing) c.no_support-support.ensures), refl)

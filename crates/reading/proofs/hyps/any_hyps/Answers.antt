@@ -1,5 +1,6 @@
-use Rattle.reading.proofs.Hypotheses.{test_any}
+use Rattle.std.proofs.Common.{◌∙◌}
+use Rattle.reading.proofs.Hypotheses.{any_tested}
 use Rattle.reading.proofs.hyps.any_hyps.Goals as goal
 
 pub returns : goal.returns
-returns c = λ g. test_any g.S g.x c.args.set.now c.hyp_list.new.set c.hyp_list.result (c.hyp_list.ensures g)
+returns c = λ g. c.hyp_list.ensures g _ (record { says = λ rows i r f e l post k. rw e at post ∙ any_tested g l k })

@@ -3,7 +3,8 @@ use native.Mathlib.Omega.{arith}
 use Rattle.rules.specs.Limits.{FACTWORDS}
 use Rattle.state.specs.Looking.{is_late, not_late}
 use Rattle.sexp.specs.Each.{here, over}
-use Rattle.reading.proofs.Hypotheses.{hyping_start, hyping_here, hyping_first, hyping_none, hyping_late, hyping_fails, hyping_more, hyping_over, facts_long, facts_few, facts_many, passing}
+use Rattle.sexp.specs.WalkLaws.{walk_start}
+use Rattle.reading.proofs.Hypotheses.{hyping_start, walking_first, walking_on, hyping_none, hyping_late, hyping_fails, hyping_more, hyping_over, facts_long, facts_few, facts_many, stands}
 use Rattle.reading.proofs.Filling.{zeros_long}
 use Rattle.reading.specs.Laws.Walks.{go_on}
 use borrow.Author.Tests.{not-true, not-false}
@@ -14,53 +15,51 @@ use Rattle.reading.proofs.Missing.{there, absent, question_is}
 use Rattle.reading.proofs.hyps.hyp_each.Goals as goal
 
 pub loop-item-init : goal.loop-item-init
-loop-item-init c = rw (c.into_iter-item-iterator.ensures.into_iter_gives, c.all-item-items.ensures.0, c.all-item-items.ensures.1) record { cells = refl; wide = zeros_long FACTWORDS c.requires.1; hyping = λ g. hyping_start _ g.S g.holds c.requires.1 }
+loop-item-init o c = rw (c.into_iter-item-iterator.ensures.into_iter_gives, c.all-item-items.ensures.0, c.all-item-items.ensures.1) record { cells = refl; walking = record { left = _; walk = walk_start c.requires.items.0.holds }; wide = zeros_long FACTWORDS c.requires.items.1; hyping = λ g p s. hyping_start p g.S g.holds c.requires.items.1 }
 
 pub index-requires : goal.index-requires
-index-requires c = rw (here c.loop-item.invariant.cells c.in-Some.ensures.steps).is (hyping_first (c.loop-item.invariant.hyping c.requires.0) (here c.loop-item.invariant.cells c.in-Some.ensures.steps).inside)
+index-requires o c = rw (here c.loop-item.invariant.cells c.in-Some.ensures.steps).is (walking_first c.loop-item.invariant.walking (here c.loop-item.invariant.cells c.in-Some.ensures.steps).inside)
 
 pub returns-in_err-i : goal.returns-in_err-i
-returns-in_err-i c = λ g. rw (handed c.from_residual.result c.from_residual.ensures ∙ ap Err (question_is _ _ c.ok_or.ensures.ok_part c.ok_or.ensures.value c.in_err-i.was)) (
-  hyping_none (c.loop-item.invariant.hyping g) (here c.loop-item.invariant.cells c.in-Some.ensures.steps).inside (rw (here c.loop-item.invariant.cells c.in-Some.ensures.steps).is at c.index.ensures) (absent _ _ c.ok_or.ensures.ok_part c.in_err-i.was),
+returns-in_err-i o c = λ g p s. rw (handed c.from_residual.result c.from_residual.ensures ∙ ap Err (question_is _ _ c.ok_or.ensures.ok_part c.ok_or.ensures.value c.in_err-i.was)) (
+  hyping_none (c.loop-item.invariant.hyping g p s) (here c.loop-item.invariant.cells c.in-Some.ensures.steps).inside (rw (here c.loop-item.invariant.cells c.in-Some.ensures.steps).is at c.index.ensures) (absent _ _ c.ok_or.ensures.ok_part c.in_err-i.was),
   (refl, refl),
 )
 
 pub is_fact-requires : goal.is_fact-requires
-is_fact-requires c = tt
+is_fact-requires o c = tt
 
 pub returns-then-not-is_fact : goal.returns-then-not-is_fact
-returns-then-not-is_fact c = λ g. (
-  hyping_late (c.loop-item.invariant.hyping g) (here c.loop-item.invariant.cells c.in-Some.ensures.steps).inside (rw (here c.loop-item.invariant.cells c.in-Some.ensures.steps).is at c.index.ensures) (there _ _ c.ok_or.ensures.ok_part c.in_ok-i.was)
+returns-then-not-is_fact o c = λ g p s. (
+  hyping_late (c.loop-item.invariant.hyping g p s) (here c.loop-item.invariant.cells c.in-Some.ensures.steps).inside (rw (here c.loop-item.invariant.cells c.in-Some.ensures.steps).is at c.index.ensures) (there _ _ c.ok_or.ensures.ok_part c.in_ok-i.was)
       (omega (arith, facts_many g, is_late c.in_ok-i.i c.args.n.facts c.is_fact.result c.is_fact.ensures (ap not c.if-not-is_fact.true))),
   (refl, refl),
 )
 
 pub passes-requires : goal.passes-requires
-passes-requires c = (
-  facts_long c.requires.0,
-  omega
-      (arith, facts_few c.requires.0, not_late c.in_ok-i.i c.args.n.facts c.is_fact.result c.is_fact.ensures (ap not c.if-not-is_fact.false)),
-)
+passes-requires o c = c.requires.callable.may _ _ refl (facts_long c.requires.items.0)
+    (omega (arith, facts_few c.requires.items.0, not_late c.in_ok-i.i c.args.n.facts c.is_fact.result c.is_fact.ensures (ap not c.if-not-is_fact.false)))
 
 pub returns-then-not-passes : goal.returns-then-not-passes
-returns-then-not-passes c = λ g. let p = passing g c.args.plain c.in_ok-i.i (not_late _ _ _ c.is_fact.ensures (ap not c.if-not-is_fact.false)) in (
-  hyping_fails (c.loop-item.invariant.hyping g) (here c.loop-item.invariant.cells c.in-Some.ensures.steps).inside (rw (here c.loop-item.invariant.cells c.in-Some.ensures.steps).is at c.index.ensures) (there _ _ c.ok_or.ensures.ok_part c.in_ok-i.was) p.is
-      (sym p.test ∙ sym c.passes.ensures ∙ not-true c.passes.result (ap not c.if-not-passes.true)),
+returns-then-not-passes o c = λ g p s. let k = stands g c.in_ok-i.i (not_late _ _ _ c.is_fact.ensures (ap not c.if-not-is_fact.false)) in (
+  hyping_fails (c.loop-item.invariant.hyping g p s) (here c.loop-item.invariant.cells c.in-Some.ensures.steps).inside (rw (here c.loop-item.invariant.cells c.in-Some.ensures.steps).is at c.index.ensures) (there _ _ c.ok_or.ensures.ok_part c.in_ok-i.was) k.is
+      (sym (s.says _ _ _ k.fact refl k.early c.passes.ensures k.is) ∙ not-true c.passes.result (ap not c.if-not-passes.true)),
   (refl, refl),
 )
 
 pub insert-requires : goal.insert-requires
-insert-requires c = let early = not_late c.in_ok-i.i c.args.n.facts c.is_fact.result c.is_fact.ensures (ap not c.if-not-is_fact.false) in omega
-    (arith, early, facts_few c.requires.0, c.loop-item.invariant.wide)
+insert-requires o c = let early = not_late c.in_ok-i.i c.args.n.facts c.is_fact.result c.is_fact.ensures (ap not c.if-not-is_fact.false) in omega
+    (arith, early, facts_few c.requires.items.0, c.loop-item.invariant.wide)
 
 pub loop-item-preserved : goal.loop-item-preserved
-loop-item-preserved c = record {
+loop-item-preserved o c = record {
+  walking = walking_on c.loop-item.invariant.walking (here c.loop-item.invariant.cells c.in-Some.ensures.steps).inside (here c.loop-item.invariant.cells c.in-Some.ensures.steps).behind;
   cells = (here c.loop-item.invariant.cells c.in-Some.ensures.steps).same;
   wide = c.insert.auto.set ∙ c.loop-item.invariant.wide;
-  hyping = λ g. let p = passing g c.args.plain c.in_ok-i.i (not_late _ _ _ c.is_fact.ensures (ap not c.if-not-is_fact.false)) in hyping_more
-      (c.loop-item.invariant.hyping g) (here c.loop-item.invariant.cells c.in-Some.ensures.steps).inside (rw (here c.loop-item.invariant.cells c.in-Some.ensures.steps).is at c.index.ensures) (there _ _ c.ok_or.ensures.ok_part c.in_ok-i.was) p.is
-      (sym p.test ∙ sym c.passes.ensures ∙ not-false c.passes.result (ap not c.if-not-passes.false)) c.insert.ensures (here c.loop-item.invariant.cells c.in-Some.ensures.steps).behind;
+  hyping = λ g p s. let k = stands g c.in_ok-i.i (not_late _ _ _ c.is_fact.ensures (ap not c.if-not-is_fact.false)) in hyping_more
+      (c.loop-item.invariant.hyping g p s) (here c.loop-item.invariant.cells c.in-Some.ensures.steps).inside (rw (here c.loop-item.invariant.cells c.in-Some.ensures.steps).is at c.index.ensures) (there _ _ c.ok_or.ensures.ok_part c.in_ok-i.was) k.is
+      (sym (s.says _ _ _ k.fact refl k.early c.passes.ensures k.is) ∙ not-false c.passes.result (ap not c.if-not-passes.false)) c.insert.ensures (here c.loop-item.invariant.cells c.in-Some.ensures.steps).behind;
 }
 
 pub returns : goal.returns
-returns c = λ g. hyping_over (c.loop-item.invariant.hyping g) (over c.loop-item.invariant.cells c.in-None.ensures.steps)
+returns o c = λ g p s. hyping_over (c.loop-item.invariant.hyping g p s) (over c.loop-item.invariant.cells c.in-None.ensures.steps)

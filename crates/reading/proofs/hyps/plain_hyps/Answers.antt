@@ -1,5 +1,7 @@
-use Rattle.reading.proofs.Hypotheses.{test_plain}
+use Rattle.std.proofs.Common.{◌∙◌}
+use Rattle.rules.specs.State.{is_plain}
+use Rattle.reading.proofs.Hypotheses.{plain_tested}
 use Rattle.reading.proofs.hyps.plain_hyps.Goals as goal
 
 pub returns : goal.returns
-returns c = λ g. test_plain g.S g.x c.args.set.now c.hyp_list.new.set c.hyp_list.result (c.hyp_list.ensures g)
+returns c = λ g. c.hyp_list.ensures g is_plain (record { says = λ rows i r f e l post k. rw e at post ∙ plain_tested g l k })

@@ -1,6 +1,6 @@
 use mathlib.Core.Path.{refl, sym, ◌∙◌}
 use native.Mathlib.Omega.{arith}
-use Rattle.sexp.proofs.Blocks.{atom_begin, atom_byte, atom_block, atom_stop, atom_over}
+use Rattle.sexp.proofs.Blocks.{atom_begin, atom_byte, letters_blocks, atom_stop, atom_over}
 use Rattle.sexp.proofs.ByteLaws.{is_letter_lem, no_letter}
 use Rattle.sexp.proofs.lex.atom_end.Goals as goal
 
@@ -10,15 +10,6 @@ loop-at-init c = atom_begin _ _ _ c.requires refl
 pub returns-else-is_letter : goal.returns-else-is_letter
 returns-else-is_letter c = atom_stop c.loop-at.invariant c.loop-at-test.true (no_letter _ (sym c.is_letter.ensures ∙ c.if-is_letter.false))
 
-pub skip_letters-at-requires : goal.skip_letters-at-requires
-skip_letters-at-requires c = omega (arith, c.loop-at-test.true)
-
-pub loop-at-smaller-then-at-eq0 : goal.loop-at-smaller-then-at-eq0
-loop-at-smaller-then-at-eq0 c = omega (arith, c.loop-at-test.true, c.skip_letters-at.ensures.low)
-
-pub loop-at-preserved-then-at-eq0 : goal.loop-at-preserved-then-at-eq0
-loop-at-preserved-then-at-eq0 c = atom_block (atom_byte c.loop-at.invariant c.loop-at-test.true (is_letter_lem _ (sym c.is_letter.ensures ∙ c.if-is_letter.true)) refl) c.skip_letters-at.ensures
-
 pub loop-at-smaller : goal.loop-at-smaller
 loop-at-smaller c = omega (arith, c.loop-at-test.true)
 
@@ -27,3 +18,10 @@ loop-at-preserved c = atom_byte c.loop-at.invariant c.loop-at-test.true (is_lett
 
 pub returns : goal.returns
 returns c = atom_over c.loop-at.invariant c.loop-at-test.false
+
+pub loop-at-preserved-then-at-eq0 : goal.loop-at-preserved-then-at-eq0
+loop-at-preserved-then-at-eq0 c =
+    let e = c.skip_blocks-at.ensures in
+    letters_blocks e.0 e.1 e.2
+    (atom_byte c.loop-at.invariant c.loop-at-test.true (is_letter_lem _ (sym c.is_letter.ensures ∙ c.if-is_letter.true)) refl)
+    (λ k l. rw (e.3 k l).shows at (e.3 k l).says.met refl)

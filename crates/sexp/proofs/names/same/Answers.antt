@@ -1,5 +1,4 @@
 use mathlib.Core.Path.{refl, sym}
-use native.Mathlib.Omega.{arith}
 use Rattle.rules.specs.Laws.Text.{same_lengths}
 use Rattle.sexp.proofs.ByteLaws.{same_differs, same_end, same_before, same_whole}
 use Rattle.sexp.proofs.names.same.Goals as goal
@@ -8,25 +7,13 @@ pub returns-then-s-t : goal.returns-then-s-t
 returns-then-s-t c = sym (same_lengths _ _ c.if-s-t.true)
 
 pub loop-at-init : goal.loop-at-init
-loop-at-init c = (omega arith, same_end c.args.s.now c.args.t.now c.if-s-t.false _ refl)
-
-pub overflow_sub-at : goal.overflow_sub-at
-overflow_sub-at c = omega arith
-
-pub bounds-s-at : goal.bounds-s-at
-bounds-s-at c = omega arith
-
-pub bounds-t-at : goal.bounds-t-at
-bounds-t-at c = omega arith
+loop-at-init c = same_end c.args.s.now c.args.t.now c.if-s-t.false _ refl
 
 pub returns-then-s-at : goal.returns-then-s-at
 returns-then-s-at c = sym (same_differs _ _ _ c.if-s-at.true)
 
-pub loop-at-smaller : goal.loop-at-smaller
-loop-at-smaller c = omega arith
-
 pub loop-at-preserved : goal.loop-at-preserved
-loop-at-preserved c = (omega arith, same_before c.args.s.now c.args.t.now c.if-s-t.false c.loop-at.at c.loop-at-test.true c.loop-at.invariant.0 c.if-s-at.false c.loop-at.invariant.1)
+loop-at-preserved c = same_before c.args.s.now c.args.t.now c.if-s-t.false c.loop-at.at c.loop-at-test.true c.loop-at.auto.at c.if-s-at.false c.loop-at.invariant
 
 pub returns : goal.returns
-returns c = same_whole c.args.s.now c.args.t.now c.if-s-t.false c.loop-at.at (omega arith) c.loop-at.invariant.1
+returns c = same_whole c.args.s.now c.args.t.now c.if-s-t.false c.loop-at.at c.loop-at-test.false c.loop-at.invariant

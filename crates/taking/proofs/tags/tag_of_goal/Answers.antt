@@ -1,21 +1,11 @@
 use mathlib.Core.Path.{◌∙◌}
 use Rattle.rules.specs.Tags.{goal_form}
 use Rattle.sexp.specs.TagTable.{goal_answer}
-use Rattle.taking.proofs.Heads.{tag_nil, tag_list, tag_start, tag_span, tag_found}
+use Rattle.taking.proofs.Heads.{tag_none, tag_found}
 use Rattle.taking.proofs.tags.tag_of_goal.Goals as goal
 
-pub returns-then-items-eq0 : goal.returns-then-items-eq0
-returns-then-items-eq0 c = λ xs h. tag_nil goal_form goal_answer xs h c.if-items-eq0.true
-
-pub returns-in_default : goal.returns-in_default
-returns-in_default c = λ xs h. tag_list goal_form goal_answer xs h c.if-items-eq0.false c.item_at.ensures c.in_default.is
-
-pub atom_end-end-requires : goal.atom_end-end-requires
-atom_end-end-requires c = tag_start goal_form goal_answer c.requires.0 c.requires.1 c.if-items-eq0.false c.item_at.ensures c.in-Atom.is
-
-pub slice_bounds-goal_tag-end : goal.slice_bounds-goal_tag-end
-slice_bounds-goal_tag-end c = (tag_span goal_form goal_answer c.requires.0 c.requires.1 c.if-items-eq0.false c.item_at.ensures c.in-Atom.is c.atom_end-end.ensures).high
+pub returns-in_err-name : goal.returns-in_err-name
+returns-in_err-name c = λ xs h. rw c.from_residual.ensures (tag_none goal_form goal_answer xs (c.in_err-name.ensures xs h).1)
 
 pub returns : goal.returns
-returns c = λ xs h. c.goal_tag.ensures ∙ tag_found goal_form goal_answer xs h c.if-items-eq0.false c.item_at.ensures c.in-Atom.is c.atom_end-end.ensures
-    (c.count.ensures xs h.cells)
+returns c = λ xs h. c.goal_tag.ensures ∙ tag_found goal_form goal_answer xs (c.in_ok-name.ensures xs h).1 (c.count.ensures xs h.cells)

@@ -13,49 +13,77 @@ pub returns-then-not-is_fact-clause-derived_as : goal.returns-then-not-is_fact-c
 returns-then-not-is_fact-clause-derived_as c = λ g. rule_late g c.requires.theta.0 _ c.is_fact.ensures (ap not c.if-not-is_fact.true)
 
 pub applicable-requires : goal.applicable-requires
-applicable-requires c = rw c.facts-facts.ensures (rule_fact c.requires.reads c.requires.theta.0 _ c.is_fact.ensures (ap not c.if-not-is_fact.false), c.requires.theta.0.long)
+applicable-requires c = rw c.facts-facts.ensures (
+  rule_fact c.requires.reads c.requires.theta.0 _ c.is_fact.ensures
+      (ap not c.if-not-is_fact.false),
+  c.requires.theta.0.long,
+)
 
 pub returns-in_err-applicable-clause-derived_as : goal.returns-in_err-applicable-clause-derived_as
-returns-in_err-applicable-clause-derived_as c = λ g. rw (handed c.from_residual.result c.from_residual.ensures) (rule_unfit g c.requires.theta.0 _ c.is_fact.ensures (ap not c.if-not-is_fact.false) (rw c.facts-facts.ensures at c.in_err-applicable.ensures))
+returns-in_err-applicable-clause-derived_as c = λ g. rw (handed c.from_residual.result c.from_residual.ensures)
+    (rule_unfit g c.requires.theta.0 _ c.is_fact.ensures (ap not c.if-not-is_fact.false) (rw c.facts-facts.ensures at c.in_err-applicable.ensures))
 
 pub nth-requires : goal.nth-requires
 nth-requires c = reaches c.requires.reads.holds (omega (arith, c.requires.reads.many))
 
 pub returns-in_default-clause-derived_as : goal.returns-in_default-clause-derived_as
-returns-in_default-clause-derived_as c = λ g. rule_atom g c.requires.theta.0 _ c.is_fact.ensures (ap not c.if-not-is_fact.false) (rw c.facts-facts.ensures at c.in_ok-applicable.ensures) c.nth.ensures c.in_default.is
+returns-in_default-clause-derived_as c = λ g. rule_atom g c.requires.theta.0 _ c.is_fact.ensures (ap not c.if-not-is_fact.false)
+    (rw c.facts-facts.ensures at c.in_ok-applicable.ensures) c.nth.ensures c.in_default.is
 
 pub offset_bounds-cells-a : goal.offset_bounds-cells-a
-offset_bounds-cells-a c = let l = rule_list_lem c.requires.reads c.requires.theta.0 _ c.is_fact.ensures (ap not c.if-not-is_fact.false) (rw c.facts-facts.ensures at c.in_ok-applicable.ensures) c.nth.ensures c.in-List.is in omega (arith, l.low, l.high)
+offset_bounds-cells-a c = let l = rule_list_lem c.requires.reads c.requires.theta.0 _ c.is_fact.ensures (ap not c.if-not-is_fact.false)
+    (rw c.facts-facts.ensures at c.in_ok-applicable.ensures) c.nth.ensures c.in-List.is in omega (arith, l.low, l.high)
 
 pub slice_bounds-inner-end : goal.slice_bounds-inner-end
-slice_bounds-inner-end c = (rule_list_lem c.requires.reads c.requires.theta.0 _ c.is_fact.ensures (ap not c.if-not-is_fact.false) (rw c.facts-facts.ensures at c.in_ok-applicable.ensures) c.nth.ensures c.in-List.is).high
+slice_bounds-inner-end c = (rule_list_lem c.requires.reads c.requires.theta.0 _ c.is_fact.ensures (ap not c.if-not-is_fact.false)
+    (rw c.facts-facts.ensures at c.in_ok-applicable.ensures) c.nth.ensures c.in-List.is).high
 
 pub count-requires : goal.count-requires
-count-requires c = has_items (rule_list_lem c.requires.reads c.requires.theta.0 _ c.is_fact.ensures (ap not c.if-not-is_fact.false) (rw c.facts-facts.ensures at c.in_ok-applicable.ensures) c.nth.ensures c.in-List.is).holds
+count-requires c = has_items (rule_list_lem c.requires.reads c.requires.theta.0 _ c.is_fact.ensures (ap not c.if-not-is_fact.false)
+    (rw c.facts-facts.ensures at c.in_ok-applicable.ensures) c.nth.ensures c.in-List.is).holds
 
 pub premises_of-requires : goal.premises_of-requires
 premises_of-requires c = rw c.facts-facts.ensures (rule_fact c.requires.reads c.requires.theta.0 _ c.is_fact.ensures (ap not c.if-not-is_fact.false))
 
 pub returns-then-count-premises_of-clause-derived_as : goal.returns-then-count-premises_of-clause-derived_as
-returns-then-count-premises_of-clause-derived_as c = λ g. rule_other g c.requires.theta.0 _ c.is_fact.ensures (ap not c.if-not-is_fact.false) (rw c.facts-facts.ensures at c.in_ok-applicable.ensures) c.nth.ensures c.in-List.is c.count.ensures (rw c.facts-facts.ensures at c.premises_of.ensures) c.if-count-premises_of.true
+returns-then-count-premises_of-clause-derived_as c = λ g. rule_other g c.requires.theta.0 _ c.is_fact.ensures (ap not c.if-not-is_fact.false)
+    (rw c.facts-facts.ensures at c.in_ok-applicable.ensures) c.nth.ensures c.in-List.is c.count.ensures
+    (rw c.facts-facts.ensures at c.premises_of.ensures) c.if-count-premises_of.true
 
 pub judgment-requires : goal.judgment-requires
 judgment-requires c = rw c.facts-facts.ensures (rule_asks (rule_fact c.requires.reads c.requires.theta.0 _ c.is_fact.ensures (ap not c.if-not-is_fact.false)))
 
 pub substitute-requires : goal.substitute-requires
 substitute-requires c =
-    let r = rule_replaceable c.requires.reads c.requires.theta.0 _ c.is_fact.ensures (ap not c.if-not-is_fact.false) (rw c.facts-facts.ensures at c.in_ok-applicable.ensures) c.nth.ensures c.in-List.is c.count.ensures (rw c.facts-facts.ensures at c.premises_of.ensures) c.if-count-premises_of.false (rw c.facts-facts.ensures at c.judgment.ensures) in
+    let r = rule_replaceable c.requires.reads c.requires.theta.0 _ c.is_fact.ensures (ap not c.if-not-is_fact.false)
+    (rw c.facts-facts.ensures at c.in_ok-applicable.ensures) c.nth.ensures c.in-List.is c.count.ensures
+    (rw c.facts-facts.ensures at c.premises_of.ensures) c.if-count-premises_of.false (rw c.facts-facts.ensures at c.judgment.ensures) in
     record { replaceable = r; id_in_bounds = blank_memo r c.requires.theta.1 }
 
 pub returns-in_err-j-clause-derived_as : goal.returns-in_err-j-clause-derived_as
 returns-in_err-j-clause-derived_as c = λ g. let p = err_from_is_err_and c.from_residual-in_err-j.result c.from_residual-in_err-j.ensures.1 in
-    rw (p.1, p.2) (rule_full g c.requires.theta.0 _ c.is_fact.ensures (ap not c.if-not-is_fact.false) (rw c.facts-facts.ensures at c.in_ok-applicable.ensures) c.nth.ensures c.in-List.is c.count.ensures (rw c.facts-facts.ensures at c.premises_of.ensures) c.if-count-premises_of.false (rw c.facts-facts.ensures at c.judgment.ensures) _ _ c.in_err-j.ensures.kept.says)
+    rw (p.1, p.2) (rule_full g c.requires.theta.0 _ c.is_fact.ensures (ap not c.if-not-is_fact.false)
+    (rw c.facts-facts.ensures at c.in_ok-applicable.ensures) c.nth.ensures c.in-List.is c.count.ensures
+    (rw c.facts-facts.ensures at c.premises_of.ensures) c.if-count-premises_of.false (rw c.facts-facts.ensures at c.judgment.ensures) _ _
+    c.in_err-j.ensures.kept.says)
 
 pub apply_to-requires : goal.apply_to-requires
 apply_to-requires c = record {
-  rule_use = rule_given c.requires.reads c.requires.theta.0 _ c.is_fact.ensures (ap not c.if-not-is_fact.false) (rw c.facts-facts.ensures at c.in_ok-applicable.ensures) c.nth.ensures c.in-List.is c.count.ensures (rw c.facts-facts.ensures at c.premises_of.ensures) c.if-count-premises_of.false (rw c.facts-facts.ensures at c.judgment.ensures) _ _ c.in_ok-j.ensures.kept.says;
-  blank = (c.substitute.ensures.memo_unchanged ∙ c.requires.theta.1, rule_there c.requires.reads c.requires.theta.0 _ c.is_fact.ensures (ap not c.if-not-is_fact.false) (rw c.facts-facts.ensures at c.in_ok-applicable.ensures) c.nth.ensures c.in-List.is c.count.ensures (rw c.facts-facts.ensures at c.premises_of.ensures) c.if-count-premises_of.false (rw c.facts-facts.ensures at c.judgment.ensures) _ _ c.in_ok-j.ensures.kept.says);
+  rule_use = rule_given c.requires.reads c.requires.theta.0 _ c.is_fact.ensures (ap not c.if-not-is_fact.false)
+      (rw c.facts-facts.ensures at c.in_ok-applicable.ensures) c.nth.ensures c.in-List.is c.count.ensures
+      (rw c.facts-facts.ensures at c.premises_of.ensures) c.if-count-premises_of.false (rw c.facts-facts.ensures at c.judgment.ensures) _ _
+      c.in_ok-j.ensures.kept.says;
+  blank = (
+    c.substitute.ensures.memo_unchanged ∙ c.requires.theta.1,
+    rule_there c.requires.reads c.requires.theta.0 _ c.is_fact.ensures
+        (ap not c.if-not-is_fact.false) (rw c.facts-facts.ensures at c.in_ok-applicable.ensures) c.nth.ensures c.in-List.is c.count.ensures
+        (rw c.facts-facts.ensures at c.premises_of.ensures) c.if-count-premises_of.false (rw c.facts-facts.ensures at c.judgment.ensures) _ _
+        c.in_ok-j.ensures.kept.says,
+  );
 }
 
 pub returns-clause-derived_as : goal.returns-clause-derived_as
-returns-clause-derived_as c = λ g. rule_answers g c.requires.theta.0 _ c.is_fact.ensures (ap not c.if-not-is_fact.false) (rw c.facts-facts.ensures at c.in_ok-applicable.ensures) c.nth.ensures c.in-List.is c.count.ensures (rw c.facts-facts.ensures at c.premises_of.ensures) c.if-count-premises_of.false (rw c.facts-facts.ensures at c.judgment.ensures) _ _ c.in_ok-j.ensures.kept.says _ _ _ _ c.apply_to.ensures.derived_as
+returns-clause-derived_as c = λ g. rule_answers g c.requires.theta.0 _ c.is_fact.ensures (ap not c.if-not-is_fact.false)
+    (rw c.facts-facts.ensures at c.in_ok-applicable.ensures) c.nth.ensures c.in-List.is c.count.ensures
+    (rw c.facts-facts.ensures at c.premises_of.ensures) c.if-count-premises_of.false (rw c.facts-facts.ensures at c.judgment.ensures) _ _
+    c.in_ok-j.ensures.kept.says _ _ _ _ c.apply_to.ensures.derived_as

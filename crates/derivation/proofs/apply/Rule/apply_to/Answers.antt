@@ -23,7 +23,8 @@ pub outside-requires : goal.outside-requires
 outside-requires c = rw (c.terms-terms.ensures, c.facts-facts.ensures) record {
   recalls = (
     to_recalls c.requires.rule_use c.requires.blank.1 _ _ c.in_ok-support.ensures.discharged_as,
-    to_under c.requires.rule_use c.requires.blank.1 _ _ c.in_ok-support.ensures.discharged_as _ ((rw c.facts-facts.ensures at c.rest_on.ensures) (to_rule c.requires.rule_use c.requires.blank.1 _ _ c.in_ok-support.ensures.discharged_as)),
+    to_under c.requires.rule_use c.requires.blank.1 _ _ c.in_ok-support.ensures.discharged_as _ ((rw c.facts-facts.ensures at c.rest_on.ensures)
+        (to_rule c.requires.rule_use c.requires.blank.1 _ _ c.in_ok-support.ensures.discharged_as)),
     to_there c.requires.rule_use c.requires.blank.1 _ _ c.in_ok-support.ensures.discharged_as,
   );
   hyps_len = (omega arith, c.visit_cells.auto.set ∙ c.discharge.auto.used);
@@ -32,14 +33,19 @@ outside-requires c = rw (c.terms-terms.ensures, c.facts-facts.ensures) record {
 pub overflow_add-result : goal.overflow_add-result
 overflow_add-result c = omega (
   arith,
-  to_fits c.requires.rule_use c.requires.blank.1 _ _ c.in_ok-support.ensures.discharged_as _ ((rw c.facts-facts.ensures at c.rest_on.ensures) (to_rule c.requires.rule_use c.requires.blank.1 _ _ c.in_ok-support.ensures.discharged_as)) _ (rw c.terms-terms.ensures at c.visit_cells.ensures)
-      ((rw (c.terms-terms.ensures, c.facts-facts.ensures) at c.outside.ensures) (to_recalls c.requires.rule_use c.requires.blank.1 _ _ c.in_ok-support.ensures.discharged_as)) c.in-Some.is,
+  to_fits c.requires.rule_use c.requires.blank.1 _ _ c.in_ok-support.ensures.discharged_as _ ((rw c.facts-facts.ensures at c.rest_on.ensures)
+      (to_rule c.requires.rule_use c.requires.blank.1 _ _ c.in_ok-support.ensures.discharged_as)) _ (rw c.terms-terms.ensures at c.visit_cells.ensures)
+      ((rw (c.terms-terms.ensures, c.facts-facts.ensures) at c.outside.ensures) (to_recalls c.requires.rule_use c.requires.blank.1 _ _
+      c.in_ok-support.ensures.discharged_as)) c.in-Some.is,
 )
 
 pub returns-in-Some-clause-derived_as : goal.returns-in-Some-clause-derived_as
-returns-in-Some-clause-derived_as c = λ g. to_outside g c.requires.blank.1 _ _ c.in_ok-support.ensures.discharged_as _ ((rw c.facts-facts.ensures at c.rest_on.ensures) (to_rule g c.requires.blank.1 _ _ c.in_ok-support.ensures.discharged_as)) _ (rw c.terms-terms.ensures at c.visit_cells.ensures)
+returns-in-Some-clause-derived_as c = λ g. to_outside g c.requires.blank.1 _ _ c.in_ok-support.ensures.discharged_as _
+    ((rw c.facts-facts.ensures at c.rest_on.ensures) (to_rule g c.requires.blank.1 _ _ c.in_ok-support.ensures.discharged_as)) _
+    (rw c.terms-terms.ensures at c.visit_cells.ensures)
     ((rw (c.terms-terms.ensures, c.facts-facts.ensures) at c.outside.ensures) (to_recalls g c.requires.blank.1 _ _ c.in_ok-support.ensures.discharged_as)) c.in-Some.is
 
 pub returns-clause-derived_as : goal.returns-clause-derived_as
-returns-clause-derived_as c = λ g. to_fact g c.requires.blank.1 _ _ c.in_ok-support.ensures.discharged_as _ ((rw c.facts-facts.ensures at c.rest_on.ensures) (to_rule g c.requires.blank.1 _ _ c.in_ok-support.ensures.discharged_as)) _ (rw c.terms-terms.ensures at c.visit_cells.ensures)
+returns-clause-derived_as c = λ g. to_fact g c.requires.blank.1 _ _ c.in_ok-support.ensures.discharged_as _ ((rw c.facts-facts.ensures at c.rest_on.ensures)
+    (to_rule g c.requires.blank.1 _ _ c.in_ok-support.ensures.discharged_as)) _ (rw c.terms-terms.ensures at c.visit_cells.ensures)
     ((rw (c.terms-terms.ensures, c.facts-facts.ensures) at c.outside.ensures) (to_recalls g c.requires.blank.1 _ _ c.in_ok-support.ensures.discharged_as)) c.in_default.is

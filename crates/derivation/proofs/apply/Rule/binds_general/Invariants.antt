@@ -5,4 +5,5 @@ use mathlib.Core.Path.{◌≡◌}
 use Rattle.derivation.proofs.apply.Rule.binds_general.Given as goal
 
 abbrev pub invariant-loop-v : goal.invariant-loop-v
-invariant-loop-v l = (length l.own ≡ VARIABLEWORDS) × (length l.self.bound.now ≡ VARIABLES) × GeneralLeft l.facts.rows.now l.facts.lists.now l.self.fact l.self.bound.now l.own l.v
+invariant-loop-v l = (length l.own ≡ VARIABLEWORDS) × (length l.self.bound.now ≡ VARIABLES) × GeneralLeft l.facts.rows.now l.facts.lists.now l.self.fact
+    l.self.bound.now l.own l.v

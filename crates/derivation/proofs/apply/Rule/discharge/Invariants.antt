@@ -17,6 +17,7 @@ invariant-loop-k l =
       memo : l.memo ≡ replicate TERMS 0;
       used : length l.used ≡ VARIABLEWORDS;
       left : (g : UsesRule l.source s l.self.fact l.cells l.self.bound.now) →
-          Left (source_names l.source) l.source.rows.now l.source.footings.now l.source.lists.now l.source.reader.n s.index.now s.words.now s.mark l.self.fact l.cells l.self.bound.now
+          Left (source_names l.source) l.source.rows.now l.source.footings.now l.source.lists.now l.source.reader.n s.index.now s.words.now s.mark
+          l.self.fact l.cells l.self.bound.now
           g.S g.xs t.index.now t.words.now t.mark l.support.hyps l.support.footing l.used l.seen l.k-iterator.count l.k-iterator.iter.at;
     }

@@ -24,7 +24,9 @@ returns-in_err-referred-clause-referred_as c = λ g. rw (handed c.from_residual-
     (met_refused g c.requires.theta.0 c.requires.theta.1 _ _ c.in_ok-under.ensures.kept.says _ _ c.in_err-referred.ensures.referred_as)
 
 pub returns-then-referred-under-clause-referred_as : goal.returns-then-referred-under-clause-referred_as
-returns-then-referred-under-clause-referred_as c = λ g. met_other g c.requires.theta.0 c.requires.theta.1 _ _ c.in_ok-under.ensures.kept.says _ _ c.in_ok-referred.ensures.referred_as c.if-referred-under.true
+returns-then-referred-under-clause-referred_as c = λ g. met_other g c.requires.theta.0 c.requires.theta.1 _ _ c.in_ok-under.ensures.kept.says _ _
+    c.in_ok-referred.ensures.referred_as c.if-referred-under.true
 
 pub returns-clause-referred_as : goal.returns-clause-referred_as
-returns-clause-referred_as c = λ g. met_this g c.requires.theta.0 c.requires.theta.1 _ _ c.in_ok-under.ensures.kept.says _ _ c.in_ok-referred.ensures.referred_as c.if-referred-under.false
+returns-clause-referred_as c = λ g. met_this g c.requires.theta.0 c.requires.theta.1 _ _ c.in_ok-under.ensures.kept.says _ _
+    c.in_ok-referred.ensures.referred_as c.if-referred-under.false

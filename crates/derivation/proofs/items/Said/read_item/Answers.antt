@@ -1,8 +1,6 @@
-use mathlib.Core.Path.{refl, sym, ◌∙◌}
-use mathlib.Core.Bool.{true≢false}
-use borrow.Author.Tests.{eqb-true, eq-eqb}
+use mathlib.Core.Path.{refl}
 use native.Mathlib.Omega.{arith}
-use Rattle.derivation.proofs.OneItem.{item_cell, item_atom_lem, item_list, item_empty_lem, item_nested, binds_given, item_given, item_bound, item_stated}
+use Rattle.derivation.proofs.OneItem.{none_there, some_there, item_cell, item_atom_lem, item_list, item_empty_lem, item_nested, binds_given, item_given, item_bound, item_stated}
 use Rattle.derivation.proofs.items.Said.read_item.Goals as goal
 
 pub item_at-requires : goal.item_at-requires
@@ -29,24 +27,28 @@ pub slice_bounds-inner-end : goal.slice_bounds-inner-end
 slice_bounds-inner-end c = (item_list c.requires c.item_at.ensures c.in-List.is).high
 
 pub returns-then-is_empty-clause-item_as : goal.returns-then-is_empty-clause-item_as
-returns-then-is_empty-clause-item_as c = λ g. (item_empty_lem g c.item_at.ensures c.in-List.is (eqb-true _ 0 (sym c.is_empty.ensures ∙ c.if-is_empty.true)), refl)
+returns-then-is_empty-clause-item_as c = λ g. (item_empty_lem g c.item_at.ensures c.in-List.is (none_there c.is_empty.ensures c.if-is_empty.true), refl)
 
 pub returns-in_default-item_at-clause-item_as : goal.returns-in_default-item_at-clause-item_as
-returns-in_default-item_at-clause-item_as c = λ g. (item_nested g c.item_at.ensures c.in-List.is (λ z. true≢false (sym (c.is_empty.ensures ∙ eq-eqb _ 0 z) ∙ c.if-is_empty.false)) c.item_at-2.ensures c.in_default-item_at.is, refl)
+returns-in_default-item_at-clause-item_as c = λ g.
+    (item_nested g c.item_at.ensures c.in-List.is (some_there c.is_empty.ensures c.if-is_empty.false) c.item_at-2.ensures c.in_default-item_at.is, refl)
 
 pub binds-requires : goal.binds-requires
-binds-requires c = binds_given c.requires c.item_at.ensures c.in-List.is (λ z. true≢false (sym (c.is_empty.ensures ∙ eq-eqb _ 0 z) ∙ c.if-is_empty.false)) c.item_at-2.ensures c.in-Atom.is
+binds-requires c = binds_given c.requires c.item_at.ensures c.in-List.is (some_there c.is_empty.ensures c.if-is_empty.false) c.item_at-2.ensures c.in-Atom.is
 
 pub bind_item-requires : goal.bind_item-requires
 bind_item-requires c = (
-  item_given c.requires c.item_at.ensures c.in-List.is (λ z. true≢false (sym (c.is_empty.ensures ∙ eq-eqb _ 0 z) ∙ c.if-is_empty.false)) c.item_at-2.ensures c.in-Atom.is c.binds.result c.binds.ensures c.if-binds.true,
-  (binds_given c.requires c.item_at.ensures c.in-List.is (λ z. true≢false (sym (c.is_empty.ensures ∙ eq-eqb _ 0 z) ∙ c.if-is_empty.false)) c.item_at-2.ensures c.in-Atom.is).1,
+  item_given c.requires c.item_at.ensures c.in-List.is (some_there c.is_empty.ensures c.if-is_empty.false)
+      c.item_at-2.ensures c.in-Atom.is c.binds.result c.binds.ensures c.if-binds.true,
+  (binds_given c.requires c.item_at.ensures c.in-List.is (some_there c.is_empty.ensures c.if-is_empty.false) c.item_at-2.ensures c.in-Atom.is).1,
 )
 
 pub returns-then-binds-clause-item_as : goal.returns-then-binds-clause-item_as
-returns-then-binds-clause-item_as c = λ g. item_bound g c.item_at.ensures c.in-List.is (λ z. true≢false (sym (c.is_empty.ensures ∙ eq-eqb _ 0 z) ∙ c.if-is_empty.false)) c.item_at-2.ensures c.in-Atom.is c.binds.result c.binds.ensures
+returns-then-binds-clause-item_as c = λ g.
+    item_bound g c.item_at.ensures c.in-List.is (some_there c.is_empty.ensures c.if-is_empty.false) c.item_at-2.ensures c.in-Atom.is c.binds.result c.binds.ensures
     c.if-binds.true _ _ _ _ _ c.bind_item.result c.bind_item.ensures.item_as
 
 pub returns-clause-item_as : goal.returns-clause-item_as
-returns-clause-item_as c = λ g. item_stated g c.item_at.ensures c.in-List.is (λ z. true≢false (sym (c.is_empty.ensures ∙ eq-eqb _ 0 z) ∙ c.if-is_empty.false)) c.item_at-2.ensures c.in-Atom.is c.binds.result c.binds.ensures
+returns-clause-item_as c = λ g.
+    item_stated g c.item_at.ensures c.in-List.is (some_there c.is_empty.ensures c.if-is_empty.false) c.item_at-2.ensures c.in-Atom.is c.binds.result c.binds.ensures
     c.if-binds.false _ _ _ _ _ c.state_item.result c.state_item.ensures.item_as

@@ -1,32 +1,20 @@
-use native.Mathlib.Omega.{arith}
-use Rattle.sexp.specs.AtomText.{atom_high}
-use Rattle.reading.proofs.TermHeads.{head, symbols_named, compound_empty, compound_nested, compound_missing, compound_single, compound_opened}
+use Rattle.reading.proofs.TermHeads.{symbols_named, compound_nameless, compound_missing, compound_single, compound_opened}
 use Rattle.reading.proofs.reader.Reader.constructor_first.Goals as goal
 
-pub returns-then-cells-eq0 : goal.returns-then-cells-eq0
-returns-then-cells-eq0 c = λ g. compound_empty g c.if-cells-eq0.true
+pub head-requires : goal.head-requires
+head-requires c = (c.requires.xs, c.requires.holds)
 
 pub returns-in_default : goal.returns-in_default
-returns-in_default c = λ g. compound_nested g c.if-cells-eq0.false c.item_at.ensures c.in_default.is
-
-pub atom_end-end-requires : goal.atom_end-end-requires
-atom_end-end-requires c = omega (arith, (head c.requires c.if-cells-eq0.false c.item_at.ensures c.in-Atom.is).inside)
-
-pub slice_bounds-name-end : goal.slice_bounds-name-end
-slice_bounds-name-end c = atom_high c.args.self.now.text.now c.in-Atom.start c.atom_end-end.result
-    (head c.requires c.if-cells-eq0.false c.item_at.ensures c.in-Atom.is).inside c.atom_end-end.ensures
+returns-in_default c = λ g. compound_nameless g (c.in_default.ensures g.xs g.holds).1
 
 pub constructor_named-requires : goal.constructor_named-requires
 constructor_named-requires c = symbols_named c.requires
 
 pub returns-in_default-constructor_named : goal.returns-in_default-constructor_named
-returns-in_default-constructor_named c = λ g. compound_missing g c.if-cells-eq0.false c.item_at.ensures c.in-Atom.is c.atom_end-end.ensures c.constructor_named.ensures
-    c.in_default-constructor_named.is
+returns-in_default-constructor_named c = λ g. compound_missing g (c.in-Some.ensures g.xs g.holds).1 c.constructor_named.ensures c.in_default-constructor_named.is
 
 pub returns-then-cells-eq1 : goal.returns-then-cells-eq1
-returns-then-cells-eq1 c = λ g. compound_single g c.if-cells-eq0.false c.item_at.ensures c.in-Atom.is c.atom_end-end.ensures c.constructor_named.ensures c.in-Some.is
-    c.if-cells-eq1.true
+returns-then-cells-eq1 c = λ g. compound_single g (c.in-Some.ensures g.xs g.holds).1 c.constructor_named.ensures c.in-Some-constructor_named.is c.if-cells-eq1.true
 
 pub returns : goal.returns
-returns c = λ g. compound_opened g c.if-cells-eq0.false c.item_at.ensures c.in-Atom.is c.atom_end-end.ensures c.constructor_named.ensures c.in-Some.is
-    c.if-cells-eq1.false
+returns c = λ g. compound_opened g (c.in-Some.ensures g.xs g.holds).1 c.constructor_named.ensures c.in-Some-constructor_named.is c.if-cells-eq1.false

@@ -4,11 +4,11 @@ use mathlib.Core.Path.{sym, ap, ◌∙◌}
 use lib.ListN.{length}
 use Rattle.terms.specs.Sets.{holds}
 use Rattle.state.specs.Members.{rising_few}
-use Rattle.referring.proofs.ScopeHyps.{members_out, joining_begins, joining_ready, joining_on, joining_ends}
+use Rattle.referring.proofs.ScopeHyps.{members_out, joining_ready, joining_on, joining_ends}
 use Rattle.referring.proofs.source.Facts.join_hyps.Goals as goal
 
-pub write_out-count-requires : goal.write_out-count-requires
-write_out-count-requires c = record { set_len_bound = omega (arith, c.requires.hyps_len.0); set_in_bounds = omega (arith, rising_few (64 * length c.args.hyps.now) (holds c.args.hyps.now), c.requires.hyps_len.0) }
+pub write_out-count-requires-clause-set_in_bounds : goal.write_out-count-requires-clause-set_in_bounds
+write_out-count-requires-clause-set_in_bounds c = omega (arith, rising_few (64 * length c.args.hyps.now) (holds c.args.hyps.now), c.requires.hyps_len.0)
 
 pub slice_bounds-ids-end : goal.slice_bounds-ids-end
 slice_bounds-ids-end c = omega (
@@ -22,27 +22,15 @@ pub slice_bounds-id-items-end : goal.slice_bounds-id-items-end
 slice_bounds-id-items-end c =
     c.write_out-count.ensures.0 ∙ sym (ap length (members_out c.args.hyps.now c.requires.hyps_len.0 c.write_out-count.ensures.0 c.write_out-count.ensures.1))
 
-pub loop-id-init : goal.loop-id-init
-loop-id-init c = joining_begins c.requires.seen
-
-pub join_free-requires : goal.join_free-requires
-join_free-requires c = record {
-  recalls = joining_ready c.loop-id.invariant c.requires.recalls.0 c.requires.recalls.1 c.requires.hyps_len.0
-      (members_out c.args.hyps.now c.requires.hyps_len.0 c.write_out-count.ensures.0 c.write_out-count.ensures.1)
-      c.requires.hyps_len.1 c.requires.hyps_len.2 c.loop-id-test.true;
-  seen = c.loop-id.invariant.visits;
-}
+pub join_free-requires-clause-recalls : goal.join_free-requires-clause-recalls
+join_free-requires-clause-recalls c = joining_ready c.loop-id.invariant c.requires.recalls.0 c.requires.recalls.1 c.requires.hyps_len.0
+    (members_out c.args.hyps.now c.requires.hyps_len.0 c.write_out-count.ensures.0 c.write_out-count.ensures.1)
+    c.requires.hyps_len.1 c.requires.hyps_len.2 c.loop-id-test.true
 
 pub loop-id-preserved : goal.loop-id-preserved
 loop-id-preserved c = joining_on c.loop-id.invariant c.requires.recalls.0 c.requires.recalls.1 c.requires.hyps_len.0
     (members_out c.args.hyps.now c.requires.hyps_len.0 c.write_out-count.ensures.0 c.write_out-count.ensures.1) c.loop-id-test.true
     c.join_free.auto.seen c.join_free.auto.set c.join_free.ensures
-
-pub shape_of-seen : goal.shape_of-seen
-shape_of-seen c = c.loop-id.invariant.long_seen
-
-pub shape_of-set : goal.shape_of-set
-shape_of-set c = c.loop-id.invariant.long_set
 
 pub returns : goal.returns
 returns c = joining_ends c.loop-id.invariant c.requires.recalls.0 c.requires.recalls.1 c.requires.hyps_len.0

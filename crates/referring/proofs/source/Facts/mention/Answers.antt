@@ -6,8 +6,8 @@ use Rattle.referring.proofs.source.Facts.mention.Goals as goal
 pub judgment-requires : goal.judgment-requires
 judgment-requires c = fact_there c.requires.recalls.0 c.requires.recalls.1
 
-pub visit-requires : goal.visit-requires
-visit-requires c = record { readable = judgment_ready c.requires.recalls.0 c.requires.recalls.1 c.judgment.ensures c.requires.recalls.2 c.requires.recalls.3; seen = c.requires.seen }
+pub visit-requires-clause-readable : goal.visit-requires-clause-readable
+visit-requires-clause-readable c = judgment_ready c.requires.recalls.0 c.requires.recalls.1 c.judgment.ensures c.requires.recalls.2 c.requires.recalls.3
 
 pub premises-own-requires : goal.premises-own-requires
 premises-own-requires c = fact_there c.requires.recalls.0 c.requires.recalls.1
@@ -29,12 +29,9 @@ slice_bounds-visit_all-end c = omega (
       c.premises-own.ensures,
 )
 
-pub visit_all-requires : goal.visit_all-requires
-visit_all-requires c = record {
-  readable_all = premises_ready c.requires.recalls.0 c.requires.recalls.1 c.premises-own.ensures (c.visit.auto.seen ∙ c.requires.recalls.2)
-      (c.visit.auto.set ∙ c.requires.recalls.3);
-  seen = c.visit.ensures.visits;
-}
+pub visit_all-requires-clause-readable_all : goal.visit_all-requires-clause-readable_all
+visit_all-requires-clause-readable_all c = premises_ready c.requires.recalls.0 c.requires.recalls.1 c.premises-own.ensures (c.visit.auto.seen ∙ c.requires.recalls.2)
+    (c.visit.auto.set ∙ c.requires.recalls.3)
 
 pub returns : goal.returns
 returns c = λ g. mention_done g c.requires.recalls.1 c.premises-own.ensures c.judgment.ensures c.visit.ensures c.visit_all.ensures

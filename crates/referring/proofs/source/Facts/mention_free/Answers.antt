@@ -8,8 +8,8 @@ use Rattle.referring.specs.Laws.ScopeFacts.{fact_there, lists_are}
 use Rattle.referring.specs.Laws.ScopeFree.{general_order, general_end, general_fits, free_done}
 use Rattle.referring.proofs.source.Facts.mention_free.Goals as goal
 
-pub mention-requires : goal.mention-requires
-mention-requires c = record { recalls = (c.requires.0, c.requires.1, refl, refl); seen = seen_none _ _ _ _ _ refl }
+pub mention-requires-clause-seen : goal.mention-requires-clause-seen
+mention-requires-clause-seen c = seen_none _ _ _ _ _ refl
 
 pub general-own-requires : goal.general-own-requires
 general-own-requires c = fact_there c.requires.0 c.requires.1
@@ -22,12 +22,6 @@ offset_bounds-self-from c = omega (
   lists_are
       c.requires.0 c.requires.1,
 )
-
-pub slice_bounds-insert_all-count : goal.slice_bounds-insert_all-count
-slice_bounds-insert_all-count c = general_order c.requires.0 c.requires.1 c.general-own.ensures
-
-pub slice_bounds-insert_all-start : goal.slice_bounds-insert_all-start
-slice_bounds-insert_all-start c = omega (arith, general_order c.requires.0 c.requires.1 c.general-own.ensures, general_end c.requires.0 c.requires.1 c.general-own.ensures)
 
 pub slice_bounds-insert_all-end : goal.slice_bounds-insert_all-end
 slice_bounds-insert_all-end c = omega (arith, general_order c.requires.0 c.requires.1 c.general-own.ensures, general_end c.requires.0 c.requires.1 c.general-own.ensures)

@@ -4,11 +4,8 @@ use Rattle.terms.specs.Laws.Seen.{seen_none}
 use Rattle.referring.proofs.ScopeOutside.{outside_none, outside_some}
 use Rattle.referring.proofs.source.Facts.outside.Goals as goal
 
-pub visit-requires : goal.visit-requires
-visit-requires c = record { readable = record { good = c.requires.recalls.0.good; there = c.requires.recalls.2; wide = omega arith; broad = omega arith }; seen = seen_none _ _ _ _ _ refl }
-
-pub hyp_vars-requires : goal.hyp_vars-requires
-hyp_vars-requires c = record { recalls = (c.requires.recalls.0, c.requires.recalls.1); hyps_len = (c.requires.hyps_len.0, c.visit.auto.seen, c.visit.auto.set); seen = c.visit.ensures.visits }
+pub visit-requires-clause-seen : goal.visit-requires-clause-seen
+visit-requires-clause-seen c = seen_none _ _ _ _ _ refl
 
 pub returns-in_err-lowest : goal.returns-in_err-lowest
 returns-in_err-lowest c = λ g. rw c.from_residual.ensures (outside_some c.args.used.now c.args.hyps.now c.requires.hyps_len.1 c.visit.ensures c.hyp_vars.ensures

@@ -1,0 +1,13 @@
+use Rattle.std.proofs.Common.{refl}
+use Rattle.forms.specs.Boards.{tables_of}
+use Rattle.beginning.proofs.Blank.{board_cleared}
+use Rattle.beginning.proofs.tables.clear_board.Goals as goal
+
+pub returns-clause-cleared : goal.returns-clause-cleared
+returns-clause-cleared c =
+    record {
+      none = board_cleared (tables_of c.args.board.now c.args.store.now) c.requires _ _ _ _ _ _ c.clear.ensures c.clear-2.ensures c.clear-3.ensures
+          c.clear-4.ensures c.clear-5.ensures c.clear-6.ensures;
+      sizes = c.theory_sizes-board.ensures;
+      mark = refl;
+    }

@@ -1,0 +1,159 @@
+-- The hypothesis that `invert` names, and those that its result rests on. Assumes nothing.
+use Rattle.std.specs.Prelude.{Some as some, None as nothing, Option}
+use mathlib.Core.Path.{◌≡◌, sym, ap, ◌∙◌, subst}
+use mathlib.Core.Bool.{Bool, true, false, not}
+use mathlib.Core.List.{List}
+use Prim.Native.Nat.{ℕ, suc, ◌-◌, ◌*◌, ◌<◌, ◌≤◌}
+use native.Mathlib.Omega.{arith}
+use lib.Dec.{ltb}
+use lib.ListN.{length, take, drop}
+use borrow.Author.Tests.{not-true, not-false}
+use Rattle.rules.specs.Limits.{FACTS}
+use Rattle.rules.specs.Out.{Out, ok, refuse, then, ask, found}
+use Rattle.rules.specs.Sexp.{Sexp, Sexps, atom, list, cons, item, rest, items}
+use Rattle.rules.specs.Find.{Set, has, rising}
+use Rattle.rules.specs.Store.{Made}
+use Rattle.rules.specs.State.{State, Fact, is_plain}
+use Rattle.rules.specs.Reference.{fact_at, hyp_each, hyp_list}
+use Rattle.rules.specs.Laws.Sexp.{rest_item}
+use Rattle.rules.specs.Laws.Store.{then_ok, then_refuse}
+use Rattle.rules.specs.Laws.Theory.{All}
+use Rattle.rules.specs.Laws.Rising.{rising_rises, rising_all_of, has_all}
+use Rattle.sexp.specs.Encode.{encodes}
+use Rattle.sexp.specs.Items.{Holds, place}
+use Rattle.sexp.specs.Never.{never}
+use Rattle.sexp.specs.NthItem.{place_high, rest_holds}
+use Rattle.sexp.specs.FoundLaws.{found_at, found_missing}
+use Rattle.terms.specs.Sets.{holds}
+use Rattle.state.specs.declared.sizes.Sizes.{Sizes}
+use Rattle.state.specs.Held.{records}
+use Rattle.state.specs.Rows.{plain_row}
+use Rattle.state.specs.FactLaws.{FactRow, fact_row_lem}
+use Rattle.state.specs.Looking.{not_late, is_late}
+use Rattle.state.specs.Members.{rises_rising}
+use Rattle.reading.specs.Items.{FirstItem, index_in, index_found}
+use Rattle.reading.specs.Given.{FactsItem}
+use Rattle.reading.specs.Answers.{HypsRead}
+use Rattle.referring.specs.Recall.{fact_of}
+use Rattle.referring.specs.Laws.Refers.{fact_found, fact_none, fact_asks}
+use Rattle.inversion.specs.Inversions.{NamingForm, hypothesis_of, HypothesisRead}
+
+-- A list of hypotheses rises ---------------------------------------------------------------------------------------------------------------
+
+rising_again : (n : ℕ) (a : Set) → rising n a ≡ rising n (has (rising n a))
+rising_again n a = sym (rises_rising n (rising n a) (rising_rises n a) (rising_all_of n a (λ v l e. l)))
+
+ok_rises : (n : ℕ) (o : Out Made (List ℕ)) (hs : List ℕ) (U : Made) → then o (λ is N. ok (rising n (has is)) N) ≡ ok hs U → hs ≡ rising n (has hs)
+unfolding then
+ok_rises n (ok is N) hs U e =
+    let q : rising n (has is) ≡ hs = cc in
+    sym q ∙ rising_again n (has is) ∙ ap (λ (xs : List ℕ). rising n (has xs)) q
+ok_rises n (refuse q d N) hs U e = never cc
+
+listed_rises : (p : Fact → Bool) (S : State) (x : Sexp) (hs : List ℕ) (U : Made) → hyp_list p S x U ≡ ok hs U → hs ≡ rising (length S.facts) (has hs)
+unfolding hyp_list items then
+listed_rises p S (atom b bs) hs U e = never cc
+listed_rises p S (list xs) hs U e = ok_rises (length S.facts) (hyp_each p S xs U) hs U e
+
+-- Item by item -----------------------------------------------------------------------------------------------------------------------------
+
+module _ {text facts : List ℕ} {n : Sizes} {cells : List ℕ} (g : NamingForm text facts n cells) where
+  abbrev S : State
+  S = g.S
+
+  abbrev whole : Made → Out Made (ℕ × (Fact × List ℕ))
+  whole M = hypothesis_of S g.xs M
+
+  module _ (k : ℕ) (l : k < 4) {at : ℕ} (a : (ys : Sexps) → cells ≡ encodes ys → at ≡ place ys k) where
+    pub naming_high : at ≤ length cells
+    naming_high = place_high g.holds_items k a
+
+    pub naming_item : Holds text (take (length cells - at) (drop at cells)) (cons (item g.xs k) (rest g.xs (suc k)))
+    naming_item = subst (Holds text (take (length cells - at) (drop at cells))) (rest_item g.xs k (omega (arith, g.many, l))) (rest_holds g.holds_items k a)
+
+  -- what is left behind the fact
+  abbrev after_fact : ℕ → Fact → Made → Out Made (ℕ × (Fact × List ℕ))
+  after_fact i k M = then (ask 40 (is_plain k) M) (λ z A. then (hyp_list (λ f. f.assumed) S (item g.xs 3) A) (λ hs B. ok (i, (k, hs)) B))
+
+  started : (M : Made) → whole M ≡ then (found 34 (index_in (item g.xs 2)) M) (λ i A. then (fact_at S i A) (λ k B. after_fact i k B))
+  started M = ap (λ (o : Out Made ℕ). then o (λ i A. then (fact_at S i A) (λ k B. after_fact i k B))) (index_found 34 (item g.xs 2) M)
+
+  module _ {at : ℕ} (a : (ys : Sexps) → cells ≡ encodes ys → at ≡ place ys 2) where
+    -- what `index` asks
+    pub naming_index : FirstItem text (take (length cells - at) (drop at cells))
+    naming_index = record { x = item g.xs 2; ys = rest g.xs 3; holds = naming_item 2 (omega arith) a }
+
+    module _ {r : Option ℕ} (b : (x : Sexp) (ys : Sexps) → Holds text (take (length cells - at) (drop at cells)) (cons x ys) → r ≡ index_in x) where
+      told : r ≡ index_in (item g.xs 2)
+      told = b (item g.xs 2) (rest g.xs 3) (naming_item 2 (omega arith) a)
+
+      pub naming_none : r ≡ nothing → (M : Made) → whole M ≡ refuse 34 0 M
+      naming_none e M = started M ∙ then_refuse _ 34 0 M _ (ap (λ (o : Option ℕ). found 34 o M) (found_missing (index_in (item g.xs 2)) r told e))
+
+      module _ {i : ℕ} (e : r ≡ some i) {t : Bool} (is : t ≡ ltb i n.facts) where
+        indexed : (M : Made) → whole M ≡ then (fact_at S i M) (λ k B. after_fact i k B)
+        indexed M = started M ∙ then_ok _ i M _ (ap (λ (o : Option ℕ). found 34 o M) (found_at (index_in (item g.xs 2)) r i told e))
+
+        pub naming_late : not t ≡ true → (M : Made) → whole M ≡ refuse 34 0 M
+        naming_late y M = indexed M ∙ then_refuse _ 34 0 M _ (fact_none g.recorded M (is_late i n.facts t is y))
+
+        module _ (y : not t ≡ false) where
+          there : i < n.facts
+          there = not_late i n.facts t is y
+
+          -- what the readers of a fact ask
+          pub naming_fact : (length facts ≡ 6 * FACTS) × (i < FACTS)
+          naming_fact = fact_asks g.recorded there
+
+          row : FactRow (records facts g.footings g.lists) n g.made_trees S i (fact_of S i)
+          row = fact_row_lem g.recorded i there
+
+          known : (M : Made) → whole M ≡ after_fact i (fact_of S i) M
+          known M = indexed M ∙ then_ok _ (fact_of S i) M _ (fact_found g.recorded M there)
+
+          module _ {p : Bool} (pl : p ≡ plain_row facts i) where
+            pub naming_other : not p ≡ true → (M : Made) → whole M ≡ refuse 40 0 M
+            naming_other z M = known M ∙ then_refuse _ 40 0 M _ (ap (λ (c : Bool). ask 40 c M) (sym row.plain ∙ sym pl ∙ not-true p z))
+
+            module _ (z : not p ≡ false) where
+              plain : (M : Made) → whole M ≡ then (hyp_list (λ f. f.assumed) S (item g.xs 3) M) (λ hs B. ok (i, (fact_of S i, hs)) B)
+              plain M = known M ∙ then_ok _ tt M _ (ap (λ (c : Bool). ask 40 c M) (sym row.plain ∙ sym pl ∙ not-false p z))
+
+              module _ {third : ℕ} (c : (ys : Sexps) → cells ≡ encodes ys → third ≡ place ys 3) where
+                -- what `any_hyps` asks
+                abbrev pub naming_hyps : FactsItem text facts n (take (length cells - third) (drop third cells))
+                naming_hyps = record {
+                  S = S;
+                  made_trees = g.made_trees;
+                  footings = g.footings;
+                  lists = g.lists;
+                  x = item g.xs 3;
+                  ys = rest g.xs 4;
+                  recorded = g.recorded;
+                  holds = naming_item 3 (omega arith) c;
+                }
+
+                pub naming_stop : {q d : ℕ} →
+                    ((w : FactsItem text facts n (take (length cells - third) (drop third cells))) → (M : Made) → hyp_list (λ f. f.assumed) w.S w.x M ≡ refuse q d M) →
+                    (M : Made) → whole M ≡ refuse q d M
+                naming_stop {q} {d} f M = plain M ∙ then_refuse _ q d M _ (f naming_hyps M)
+
+                module _ {hyps : List ℕ} (f : (w : FactsItem text facts n (take (length cells - third) (drop third cells))) → HypsRead (λ f. f.assumed) w.S w.x hyps) where
+                  abbrev read : HypsRead (λ f. f.assumed) S (item g.xs 3) hyps
+                  read = f naming_hyps
+
+                  rise : (M : Made) → read.hyps ≡ rising n.facts (holds hyps)
+                  rise M =
+                      listed_rises (λ f. f.assumed) S (item g.xs 3) read.hyps M (read.are M)
+                      ∙ (λ i. rising (sym g.recorded.many i) (sym read.set_is i))
+
+                  pub naming_read : HypothesisRead S n hyps (hypothesis_of S g.xs) i
+                  naming_read =
+                      record {
+                        read = λ M. plain M ∙ then_ok _ read.hyps M _ (read.are M) ∙ ap (λ (hs : List ℕ). ok (i, (fact_of S i, hs)) M) (rise M);
+                        there = there;
+                        early = λ v q.
+                            has_all read.hyps v
+                            (subst (All (λ h. h < n.facts)) (sym (rise g.made_trees)) (rising_all_of n.facts (holds hyps) (λ w l e. l)))
+                            (ap (λ (a : Set). a v) (sym read.set_is) ∙ q);
+                      }

@@ -1,0 +1,99 @@
+-- What is inverted, as it is lent, beside a store, and what is answered. Each is the relation of the same meaning over plain tables. Assumes nothing.
+use Rattle.std.specs.Prelude.{◌≡◌, Bool, List, ℕ, Option, Result}
+use Rattle.rules.specs.Out.{Out}
+use Rattle.rules.specs.Store.{Made}
+use Rattle.rules.specs.Unify.{Binding}
+use Rattle.rules.specs.State.{State, Var, Fact}
+use Rattle.rules.specs.Invert.{Inversion, Names}
+use Rattle.questions.specs.declared.Row.{Row}
+use Rattle.questions.specs.declared.Question.{Question}
+use Rattle.kernel.specs.declared.rule_readers.Rules.{Rules}
+use Rattle.terms.specs.declared.store.Store.{Store}
+use Rattle.unification.specs.declared.unify.Scratch.{Scratch}
+use Rattle.referring.specs.declared.source.Facts.{Facts}
+use Rattle.referring.specs.declared.source.Source.{Source}
+use Rattle.referring.specs.Sources.{source_names, rules_of}
+use Rattle.casework.specs.declared.context.Renamed.{Renamed}
+use Rattle.inversion.specs.declared.inverting.Inverting.{Inverting}
+use Rattle.inversion.specs.declared.inverting.Cases.{Cases}
+use Rattle.inversion.specs.declared.inverting.Variables.{Variables}
+use Rattle.inversion.specs.declared.inverting.Renaming.{Renaming}
+use Rattle.inversion.specs.declared.invert.Inverted.{Inverted}
+use Rattle.inversion.specs.InvertRules.{CaseVarsGiven, KeptBy, Empty, Meeting, MetBy, Judging, JudgedBy, Verdict, Lacking, LackedBy, Having, Turning, TurnedBy}
+use Rattle.inversion.specs.Inversions.{NamingForm, InvertForm, InvertingOn, InvertedOnBy, InvertedBy}
+
+-- Scratch --------------------------------------------------------------------------------------------------------------------------
+
+abbrev pub EmptyScratch : Scratch → Type 0
+EmptyScratch x = Empty x.map.now x.memo.now x.pairs.now x.seen.now
+
+-- it holds what it held
+abbrev pub ScratchKept : Scratch → Scratch → Type 0
+ScratchKept x y = (y.map.now ≡ x.map.now) × (y.memo.now ≡ x.memo.now) × (y.pairs.now ≡ x.pairs.now) × (y.seen.now ≡ x.seen.now)
+
+-- One rule -------------------------------------------------------------------------------------------------------------------------
+
+-- the case at place p of the cells, of rule r
+abbrev pub CaseVarsIn : Inverting → Cases → ℕ → ℕ → ℕ → Type 0
+CaseVarsIn v c p r need = let x = v.source.reader in CaseVarsGiven x.goals.now x.text.now x.vars.now v.rules.vars.now x.n.vars c.cells.now p r need
+
+abbrev pub KeptAs : Store → Store → List ℕ → List ℕ → Result (Unit {0}) Row → Type 0
+KeptAs s t list into r = KeptBy s.index.now s.words.now t.index.now t.words.now s.mark t.mark list into r
+
+abbrev pub MeetingIn : Inverting → Store → Renaming → List ℕ → Type 0
+MeetingIn v s own bound =
+    Meeting v.source.reader.symbols.now v.rules.rows.now v.rules.patterns.now v.source.reader.n s.index.now s.words.now s.mark own.rule v.hypothesis own.count own.vars.now bound
+
+abbrev pub MetAs : Store → Store → Out Made (Option (List Binding)) → List ℕ → List ℕ → List ℕ → Result Bool Question → Type 0
+MetAs s t K list bound theta r = MetBy s.index.now s.words.now t.index.now t.words.now s.mark t.mark K list bound theta r
+
+-- t: the case's judgment
+abbrev pub JudgingIn : Inverting → Store → Renamed → ℕ → List ℕ → List ℕ → Type 0
+JudgingIn v s m t memo ids =
+    Judging v.source.reader.symbols.now v.rules.rows.now v.rules.patterns.now v.source.rows.now v.source.lists.now v.source.reader.n s.index.now s.words.now s.mark m.rule t m.bound.now m.theta.now memo v.context.now ids
+
+abbrev pub JudgedAs : Store → Store → Out Made (Unit {0}) → Result (Unit {0}) Question → Type 0
+JudgedAs s t K r = JudgedBy s.index.now s.words.now t.index.now t.words.now s.mark t.mark K r
+
+abbrev pub VerdictIn : Facts → ℕ → ℕ → List ℕ → Type 0
+VerdictIn f i t own = Verdict f.rows.now f.n i t own
+
+abbrev pub LackingIn : Inverting → Store → ℕ → Variables → Type 0
+LackingIn v s r x =
+    Lacking v.source.reader.symbols.now v.rules.rows.now v.rules.vars.now v.rules.patterns.now v.source.reader.n s.index.now s.words.now s.mark r v.hypothesis x.sorts x.count
+
+abbrev pub LackedAs : Store → Store → List Var → Out Made (List Var) → Variables → Variables → Result (Unit {0}) Question → Type 0
+LackedAs s t vs K x y r = LackedBy s.index.now s.words.now t.index.now t.words.now s.mark t.mark vs K y.sorts x.count y.count r
+
+abbrev pub HavingIn : Inverting → Store → Renaming → List ℕ → Type 0
+HavingIn v s own ids =
+    Having v.source.reader.symbols.now v.rules.rows.now v.rules.patterns.now v.source.rows.now v.source.lists.now v.source.reader.n s.index.now s.words.now s.mark own.rule v.hypothesis v.judgment own.vars.now v.context.now own.count ids
+
+-- From rule to rule ----------------------------------------------------------------------------------------------------------------
+
+abbrev pub TurningIn : Inverting → Cases → Store → Variables → Type 0
+TurningIn v c s x =
+    Turning (source_names v.source) (rules_of v.source v.rules) v.source.rows.now v.source.lists.now v.source.reader.n s.index.now s.words.now s.mark c.cells.now c.many v.hypothesis v.judgment v.context.now x.taken x.sorts x.count
+
+abbrev pub TurnedAs : Store → Store → State → Inversion → Out Made Names → Variables → Variables → Result (Unit {0}) Question → Type 0
+TurnedAs s t S Y K x y r = TurnedBy s.index.now s.words.now t.index.now t.words.now s.mark t.mark S Y K y.taken y.sorts x.count y.count r
+
+-- The form -------------------------------------------------------------------------------------------------------------------------
+
+-- its hypotheses
+abbrev pub NamesHypothesis : Source → List ℕ → Type 0
+NamesHypothesis s cells = NamingForm s.reader.text.now s.rows.now s.reader.n cells
+
+abbrev pub InvertsForm : Source → Rules → Store → List ℕ → Type 0
+InvertsForm s p t cells = InvertForm (source_names s) (rules_of s p) s.rows.now s.footings.now s.lists.now s.reader.n t.index.now t.words.now t.mark cells
+
+abbrev pub InvertsOn : Inverting → Store → List ℕ → Type 0
+InvertsOn v s cells =
+    InvertingOn (source_names v.source) (rules_of v.source v.rules) v.source.rows.now v.source.lists.now v.source.reader.n s.index.now s.words.now s.mark cells v.hypothesis v.judgment v.context.now
+
+-- before, sorts: the cells of sorts before and afterwards
+abbrev pub InvertedOnAs : Store → Store → State → Out Made (List Var) → List ℕ → List ℕ → Result ℕ Question → Type 0
+InvertedOnAs s t S K before sorts r = InvertedOnBy s.index.now s.words.now t.index.now t.words.now s.mark t.mark S K before sorts r
+
+abbrev pub InvertedAs : Store → Store → State → Out Made (Fact × List Var) → List ℕ → List ℕ → Result Inverted Question → Type 0
+InvertedAs s t S K before sorts r = InvertedBy s.index.now s.words.now t.index.now t.words.now s.mark t.mark S K before sorts r

@@ -1,0 +1,37 @@
+// What is inverted, and what is carried from rule to rule.
+use kernel::rule_readers::Rules;
+use referring::source::Source;
+use rules::{VARIABLES, VARIABLEWORDS};
+
+// The hypothesis and the judgment by their numbers, and the facts of the context; beside what all is read from.
+#[derive(Clone, Copy)]
+pub struct Inverting<'a> {
+    pub source: Source<'a>,
+    pub rules: Rules<'a>,
+    pub hypothesis: usize,
+    pub judgment: usize,
+    pub context: &'a [u32],
+}
+
+// The cases: their items, and how many they are.
+#[derive(Clone, Copy)]
+pub struct Cases<'a> {
+    pub cells: &'a [u32],
+    pub many: usize,
+}
+
+// The variables that a case must not have, the sorts of those that were made, each at its number, and how many variables there are.
+#[derive(Drop)]
+pub struct Variables {
+    pub taken: [u64; VARIABLEWORDS],
+    pub sorts: [u32; VARIABLES],
+    pub count: usize,
+}
+
+// A rule by its number, the variables that stand for its own, and how many variables there are in all.
+#[derive(Clone, Copy)]
+pub struct Renaming<'a> {
+    pub rule: usize,
+    pub vars: &'a [u32],
+    pub count: usize,
+}

@@ -1,0 +1,100 @@
+// The case of a rule that meets the hypothesis, judged under the unifier: its fact concludes the judgment (questions 34 and 43), and rests on what is
+// allowed (question 44).
+ghost use Rattle.std.specs.Prelude.{◌≡◌, ◌*◌, ◌≤◌, length, get_or};
+ghost use Rattle.rules.specs.Limits.{FACTS};
+ghost use Rattle.rules.specs.Tree.{var};
+ghost use Rattle.rules.specs.Theory.{rule};
+ghost use Rattle.rules.specs.Invert.{renaming};
+ghost use Rattle.terms.specs.Table.{tree};
+ghost use Rattle.terms.specs.Lent.{SameTables, made_of};
+ghost use Rattle.terms.specs.Sets.{holds};
+ghost use Rattle.terms.specs.Theta.{bindings};
+ghost use Rattle.inversion.specs.InvertRules.{judged, judges, own_span, verdict_of};
+ghost use Rattle.inversion.specs.Inverting.{JudgingIn, JudgedAs, VerdictIn};
+
+use crate::inverting::Inverting;
+use casework::context::{Grounds, Renamed, context_facts, no_grounds, rests_on_all, rule_premises};
+use questions::Question;
+use referring::source::Facts;
+use state::facts::{Span, hyps as hyps_of, is_fact, judgment};
+use terms::store::Store;
+use terms::substitute::substitute;
+
+// The entries of fact i's hypotheses; none where there is no such fact.
+fn own_hyps(facts: &Facts<'_>, i: usize) -> Span
+    requires { (length facts.now.rows.now ≡ 6 * FACTS) × (facts.now.n.facts ≤ FACTS) }
+    ensures { result ≡ own_span facts.now.rows.now facts.now.n i }
+{
+    if is_fact(facts.n, i) {
+        return hyps_of(facts.rows, i);
+    }
+    Span { from: 0, end: 0 }
+}
+
+// Questions 34, 43 and 44 of a case: its fact i is there, concludes t, and rests on what is allowed.
+fn verdict(facts: &Facts<'_>, i: usize, t: usize, grounds: &Grounds<'_>) -> Result<(), Question>
+    requires { VerdictIn facts.now i t grounds.now.own.now }
+    ensures { (g : VerdictIn facts.now i t grounds.now.own.now) →
+        result ≡ verdict_of g.given.S g.given.trees i (get_or g.given.trees t (var 0)) (holds grounds.now.plain) (holds grounds.now.fine) }
+{
+    if !is_fact(facts.n, i) {
+        return Err(Question::Earlier);
+    }
+    if judgment(facts.rows, i) != t {
+        return Err(Question::CaseJudgment);
+    }
+    if !rests_on_all(facts, grounds) {
+        return Err(Question::CaseHypotheses);
+    }
+    Ok(())
+}
+
+impl Inverting<'_> {
+    // The case's judgment is t under the unifier: what the case may rest on, then its fact i.
+    fn judge_on(
+        &self,
+        store: &mut Store<'_>,
+        renamed: &Renamed<'_>,
+        t: usize,
+        i: usize,
+        memo: &mut [u32],
+        ids: &mut [u32],
+    ) -> Result<(), Question>
+        requires { JudgingIn self.now store.old renamed.now t memo.old ids.old }
+        ensures same_tables { SameTables store.old store.new }
+        ensures judged_as { (g : JudgingIn self.now store.old renamed.now t memo.old ids.old) → let s = store.old in
+            JudgedAs s store.new (judged g.recalls.S (rule g.renamed.T renamed.now.rule) (renaming g.renamed.xs) (bindings (made_of s) renamed.now.theta.now 0)
+            self.now.context.now i (tree s.index.now s.words.now s.mark t) (made_of s)) result }
+        ensures memo_unchanged { (memo.new ≡ memo.old) × (ids.new ≡ ids.old) }
+    {
+        let facts = self.source.facts();
+        let span = own_hyps(&facts, i);
+        let from = span.from;
+        let end = span.end;
+        let none = no_grounds(&self.source.lists[from..end]);
+        let symbols = self.source.reader.symbols;
+        let first = rule_premises(&self.rules, symbols, store, renamed, memo, none)?;
+        let grounds = context_facts(&facts, store, renamed.theta, memo, self.context, ids, first)?;
+        verdict(&facts, i, t, &grounds)
+    }
+
+    // A case whose fact is i, of a rule that meets the hypothesis.
+    pub fn judge(
+        &self,
+        store: &mut Store<'_>,
+        renamed: &Renamed<'_>,
+        i: usize,
+        memo: &mut [u32],
+        ids: &mut [u32],
+    ) -> Result<(), Question>
+        requires { JudgingIn self.now store.old renamed.now self.now.judgment memo.old ids.old }
+        ensures same_tables { SameTables store.old store.new }
+        ensures judged_as { (g : JudgingIn self.now store.old renamed.now self.now.judgment memo.old ids.old) → let s = store.old in
+            JudgedAs s store.new (judges g.recalls.S (rule g.renamed.T renamed.now.rule) (renaming g.renamed.xs) (bindings (made_of s) renamed.now.theta.now 0)
+            self.now.context.now i (tree s.index.now s.words.now s.mark self.now.judgment) (made_of s)) result }
+        ensures memo_unchanged { (memo.new ≡ memo.old) × (ids.new ≡ ids.old) }
+    {
+        let t = substitute(store, renamed.theta, memo, self.judgment)?;
+        self.judge_on(store, renamed, t, i, memo, ids)
+    }
+}

@@ -1,0 +1,69 @@
+// Where a rule meets the hypothesis: its variables, renamed, as terms, and its conclusion over them unified with the hypothesis.
+ghost use Rattle.std.specs.Prelude.{◌≡◌, ◌≤◌, length, replicate};
+ghost use Rattle.rules.specs.Limits.{VARIABLES, RULEVARS};
+ghost use Rattle.rules.specs.Theory.{rule};
+ghost use Rattle.terms.specs.Table.{tree};
+ghost use Rattle.terms.specs.Lent.{GoodStore, SameTables, made_of};
+ghost use Rattle.terms.specs.Patterns.{Cells};
+ghost use Rattle.unification.specs.Unify.{SameScratch};
+ghost use Rattle.casework.specs.Context.{There};
+ghost use Rattle.inversion.specs.InvertRules.{meets};
+ghost use Rattle.inversion.specs.Inverting.{EmptyScratch, ScratchKept, KeptAs, MeetingIn, MetAs};
+
+use crate::inverting::{Inverting, Renaming};
+use kernel::rule_readers::conclusion;
+use questions::{Question, Row};
+use rules::SYMBOLS;
+use terms::patterns::build;
+use terms::store::Store;
+use unification::unify::{Scratch, unify};
+
+// Variables as terms: their numbers with 1 added come into the first cells.
+fn keep_vars(store: &mut Store<'_>, list: &[u32], bound: &mut [u32]) -> Result<(), Row>
+    requires { GoodStore store.old × There VARIABLES list.now × (length list.now ≤ RULEVARS) × Cells store.old.mark.terms bound.old }
+    ensures same_tables { SameTables store.old store.new }
+    ensures kept_as { KeptAs store.old store.new list.now bound.new result }
+{
+    for (k, v) in list.iter().enumerate() {
+        let node = [(SYMBOLS + *v as usize) as u32];
+        let term = store.keep(&node)?;
+        bound[k] = (term + 1) as u32;
+    }
+    Ok(())
+}
+
+impl Inverting<'_> {
+    // Whether the rule meets the hypothesis: the terms of its variables come into `bound`, and the unifier, where there is one, into `theta`, which is
+    // zero before. `scratch` is zero before and after.
+    pub fn meet(
+        &self,
+        store: &mut Store<'_>,
+        own: &Renaming<'_>,
+        bound: &mut [u32],
+        theta: &mut [u32],
+        scratch: &mut Scratch<'_>,
+    ) -> Result<bool, Question>
+        requires meeting { MeetingIn self.now store.old own.now bound.old }
+        requires empty { (theta.old ≡ replicate VARIABLES 0) × EmptyScratch scratch.old }
+        ensures same_tables { SameTables store.old store.new }
+        ensures met_as { (g : MeetingIn self.now store.old own.now bound.old) → let s = store.old in
+            MetAs s store.new (meets own.now.vars.now own.now.count (tree s.index.now s.words.now s.mark self.now.hypothesis) (rule g.T own.now.rule) (made_of s))
+            own.now.vars.now bound.new theta.new result }
+        ensures same_scratch { SameScratch scratch.old scratch.new }
+        ensures scratch_kept { ScratchKept scratch.old scratch.new }
+    {
+        keep_vars(store, own.vars, bound)?;
+        let rules = &self.rules;
+        let symbols = self.source.reader.symbols;
+        let at = conclusion(rules.patterns, rules.rows, symbols, own.rule);
+        let built = build(symbols, rules.patterns, store, bound, at)?;
+        Ok(unify(
+            store,
+            own.count,
+            self.hypothesis,
+            built.term,
+            theta,
+            scratch,
+        )?)
+    }
+}

@@ -1,0 +1,205 @@
+// One rule after the other: its variables renamed (question 42), its conclusion unified with the hypothesis (46, 47), its case judged.
+ghost use Rattle.std.specs.Prelude.{◌≡◌, ◌<◌, replicate};
+ghost use Rattle.rules.specs.Limits.{TERMS};
+ghost use Rattle.rules.specs.Theory.{rule, rules_of};
+ghost use Rattle.rules.specs.Invert.{invert_rule, invert_rules, predicate_of};
+ghost use Rattle.terms.specs.Table.{tree};
+ghost use Rattle.terms.specs.Lent.{GoodTerms, SameTables, made_of};
+ghost use Rattle.unification.specs.Unify.{SameScratch};
+ghost use Rattle.inversion.specs.InvertRules.{vars_with, lacks, has_case};
+ghost use Rattle.inversion.specs.Inverting.{EmptyScratch, ScratchKept, LackingIn, LackedAs, HavingIn, JudgedAs, TurningIn, TurnedAs};
+
+use crate::inverting::{Cases, Inverting, Renaming, Variables};
+use crate::renaming::make_vars;
+use casework::cases::find_case;
+use casework::context::Renamed;
+use kernel::rule_readers::{next_rule, rule_name, variables};
+use questions::Question;
+use rules::{PAIRS, RULEVARS, SYMBOLS, TERMWORDS, VARIABLES};
+use terms::store::{Store, Terms};
+use unification::unify::Scratch;
+
+// The predicate of the term s; where it is a variable, number 0, as the definition has it.
+fn predicate_of(terms: &Terms<'_>, s: usize) -> usize
+    requires { GoodTerms terms.now × (s < terms.now.mark.terms) }
+    ensures { let t = terms.now in result ≡ predicate_of (tree t.index.now t.words.now t.mark s) }
+{
+    let h = terms.head(s);
+    if h < SYMBOLS {
+        return h;
+    }
+    0
+}
+
+impl Inverting<'_> {
+    // Rule r without a case: it must not meet the hypothesis.
+    fn without_case(
+        &self,
+        store: &mut Store<'_>,
+        r: usize,
+        names: &mut Variables,
+        scratch: &mut Scratch<'_>,
+    ) -> Result<(), Question>
+        requires lacking { LackingIn self.now store.old r names.old }
+        requires empty { EmptyScratch scratch.old }
+        ensures same_tables { SameTables store.old store.new }
+        ensures lacked_as { (g : LackingIn self.now store.old r names.old) → let s = store.old in
+            LackedAs s store.new g.vs
+            (lacks (vars_with g.vs names.old.sorts names.old.count) (tree s.index.now s.words.now s.mark self.now.hypothesis) (rule g.T r) (made_of s))
+            names.old names.new result }
+        ensures taken_unchanged { names.new.taken ≡ names.old.taken }
+        ensures same_scratch { SameScratch scratch.old scratch.new }
+        ensures scratch_kept { ScratchKept scratch.old scratch.new }
+    {
+        let mut list = [0u32; RULEVARS];
+        let mut bound = [0u32; RULEVARS];
+        let mut theta = [0u32; VARIABLES];
+        let need = variables(self.rules.rows, r);
+        make_vars(self.rules.vars, r, need, names, &mut list)?;
+        let own = Renaming {
+            rule: r,
+            vars: &list[..need],
+            count: names.count,
+        };
+        if self.meet(store, &own, &mut bound, &mut theta, scratch)? {
+            return Err(Question::MissingCase);
+        }
+        Ok(())
+    }
+
+    // A rule with a case, whose variables are those of the renaming, and whose fact is i: it must meet the hypothesis, and the case is judged.
+    fn with_case(
+        &self,
+        store: &mut Store<'_>,
+        own: &Renaming<'_>,
+        i: usize,
+        scratch: &mut Scratch<'_>,
+        ids: &mut [u32],
+    ) -> Result<(), Question>
+        requires having { HavingIn self.now store.old own.now ids.old }
+        requires empty { EmptyScratch scratch.old }
+        ensures same_tables { SameTables store.old store.new }
+        ensures judged_as { (g : HavingIn self.now store.old own.now ids.old) → let s = store.old in
+            JudgedAs s store.new (has_case g.recalls.S own.now.vars.now own.now.count (tree s.index.now s.words.now s.mark self.now.hypothesis)
+            (rule g.recalls.S.theory own.now.rule) self.now.context.now i (tree s.index.now s.words.now s.mark self.now.judgment) (made_of s)) result }
+        ensures same_scratch { SameScratch scratch.old scratch.new }
+        ensures scratch_kept { ScratchKept scratch.old scratch.new }
+        ensures ids_unchanged { ids.new ≡ ids.old }
+    {
+        let mut bound = [0u32; RULEVARS];
+        let mut theta = [0u32; VARIABLES];
+        if !self.meet(store, own, &mut bound, &mut theta, scratch)? {
+            return Err(Question::CannotConclude);
+        }
+        let renamed = Renamed {
+            rule: own.rule,
+            bound: &bound,
+            theta: &theta,
+        };
+        let memo = &mut *scratch.memo;
+        self.judge(store, &renamed, i, memo, ids)
+    }
+
+    // Rule r. `scratch` and `ids` are zero before and after.
+    fn invert_rule(
+        &self,
+        store: &mut Store<'_>,
+        cases: &Cases<'_>,
+        r: usize,
+        names: &mut Variables,
+        scratch: &mut Scratch<'_>,
+        ids: &mut [u32],
+    ) -> Result<(), Question>
+        requires turning { TurningIn self.now cases.now store.old names.old }
+        requires r_lt_rules { (r < self.now.source.reader.n.rules) × EmptyScratch scratch.old × (ids.old ≡ replicate 40960 0) }
+        ensures same_tables { SameTables store.old store.new }
+        ensures turned_as { (g : TurningIn self.now cases.now store.old names.old) →
+            TurnedAs store.old store.new g.S g.inversion (invert_rule g.S g.inversion (rule g.S.theory r) g.names (made_of store.old)) names.old names.new result }
+        ensures same_scratch { SameScratch scratch.old scratch.new }
+        ensures scratch_kept { ScratchKept scratch.old scratch.new }
+        ensures ids_unchanged { ids.new ≡ ids.old }
+    {
+        let span = rule_name(self.rules.rows, r);
+        let from = span.from;
+        let end = span.end;
+        let reader = &self.source.reader;
+        let name = &reader.theory[from..end];
+        let Some(p) = find_case(reader.text, cases.cells, cases.many, name) else {
+            return self.without_case(store, r, names, scratch);
+        };
+        let mut list = [0u32; RULEVARS];
+        let need = variables(self.rules.rows, r);
+        let i = self.case_vars(cases, p, r, need, &mut names.taken, &mut list)?;
+        let own = Renaming {
+            rule: r,
+            vars: &list[..need],
+            count: names.count,
+        };
+        self.with_case(store, &own, i, scratch, ids)
+    }
+
+    // All rules of the predicate in turn. `scratch` and `ids` are zero before and after.
+    fn invert_rules(
+        &self,
+        store: &mut Store<'_>,
+        cases: &Cases<'_>,
+        names: &mut Variables,
+        scratch: &mut Scratch<'_>,
+        ids: &mut [u32],
+    ) -> Result<(), Question>
+        requires turning { TurningIn self.now cases.now store.old names.old }
+        requires empty { EmptyScratch scratch.old × (ids.old ≡ replicate 40960 0) }
+        ensures same_tables { SameTables store.old store.new }
+        ensures turned_as { (g : TurningIn self.now cases.now store.old names.old) →
+            TurnedAs store.old store.new g.S g.inversion
+            (invert_rules g.S g.inversion (rules_of g.S.theory (predicate_of g.inversion.hypothesis)) g.names (made_of store.old)) names.old names.new result }
+        ensures same_scratch { SameScratch scratch.old scratch.new }
+        ensures scratch_kept { ScratchKept scratch.old scratch.new }
+        ensures ids_unchanged { ids.new ≡ ids.old }
+    {
+        let predicate = predicate_of(&store.terms(), self.hypothesis);
+        let mut from = 0;
+        // no count: it jumps to the next rule of the predicate
+        while let Some(r) = next_rule(
+            self.rules.rows,
+            self.rules.patterns,
+            self.source.reader.symbols,
+            self.source.reader.n.rules,
+            predicate,
+            from,
+        ) {
+            self.invert_rule(store, cases, r, names, scratch, ids)?;
+            from = r + 1;
+        }
+        Ok(())
+    }
+
+    // The same with tables for unification, made once. `memo` and `ids` are zero before and after.
+    pub fn all_rules(
+        &self,
+        store: &mut Store<'_>,
+        cases: &Cases<'_>,
+        names: &mut Variables,
+        memo: &mut [u32],
+        ids: &mut [u32],
+    ) -> Result<(), Question>
+        requires turning { TurningIn self.now cases.now store.old names.old }
+        requires empty { (memo.old ≡ replicate TERMS 0) × (ids.old ≡ replicate 40960 0) }
+        ensures same_tables { SameTables store.old store.new }
+        ensures turned_as { (g : TurningIn self.now cases.now store.old names.old) →
+            TurnedAs store.old store.new g.S g.inversion
+            (invert_rules g.S g.inversion (rules_of g.S.theory (predicate_of g.inversion.hypothesis)) g.names (made_of store.old)) names.old names.new result }
+        ensures memo_unchanged { (memo.new ≡ memo.old) × (ids.new ≡ ids.old) }
+    {
+        let mut map = [0u32; VARIABLES];
+        let mut pairs = [0u32; 2 * PAIRS];
+        let mut seen = [0u64; TERMWORDS];
+        let mut scratch = Scratch {
+            map: &mut map,
+            memo,
+            pairs: &mut pairs,
+            seen: &mut seen,
+        };
+        self.invert_rules(store, cases, names, &mut scratch, ids)
+    }
+}

@@ -1,0 +1,16 @@
+-- The parts of the lists that the entries of a fact are. Assumes nothing.
+use Rattle.std.specs.Prelude.{◌≡◌, List, ℕ, ◌*◌, ◌^◌, ◌≤◌, ◌<◌, length}
+use Rattle.std.proofs.Common.{arith}
+use Rattle.std.proofs.Math.Path.{ap}
+use Rattle.state.specs.declared.facts.Span.{Span}
+use Rattle.state.specs.Rows.{general_span}
+use Rattle.state.specs.FactLaws.{fact_row_lem, lists_long}
+use Rattle.referring.specs.Recall.{RecallsFact}
+
+-- the generalised variables stand last
+module _ {facts footings lists : List ℕ} {i : ℕ} (g : RecallsFact facts footings lists i) {s t : Span} (e : s ≡ t) where
+  pub part_end : t.end ≤ (general_span facts i).end → s.end ≤ length lists
+  part_end l = omega (arith, ap (λ (p : Span). p.end) e, (fact_row_lem g.recorded i g.there).inside, lists_long g.recorded)
+
+  pub part_fits : t.from ≤ (general_span facts i).end → s.from * 4 < 2 ^ 64
+  part_fits l = omega (arith, ap (λ (p : Span). p.from) e, (fact_row_lem g.recorded i g.there).inside)

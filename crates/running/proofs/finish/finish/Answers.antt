@@ -1,0 +1,18 @@
+use Rattle.running.proofs.Ends.{open_rows_given, carried, question_53, accepted}
+use Rattle.running.proofs.finish.finish.Goals as goal
+
+pub count_open-open_goals-requires : goal.count_open-open_goals-requires
+count_open-open_goals-requires c = rw c.terms.ensures (open_rows_given c.requires.0)
+
+pub returns-in-Err-clause-finishes : goal.returns-in-Err-clause-finishes
+returns-in-Err-clause-finishes c =
+    rw c.in-Err.is (λ g. carried g c.carry.ensures.refusal c.carry.ensures.list)
+
+pub returns-then-many-ne0-clause-finishes : goal.returns-then-many-ne0-clause-finishes
+returns-then-many-ne0-clause-finishes c =
+    rw c.in-Ok.is (λ g. question_53 g c.from.ensures c.list_missing-many.ensures c.if-many-ne0.true)
+
+pub returns-clause-finishes : goal.returns-clause-finishes
+returns-clause-finishes c =
+    let opens = rw c.terms.ensures at c.count_open-open_goals.ensures in
+    rw c.in-Ok.is (λ g. accepted g c.list_missing-many.ensures c.if-many-ne0.false (opens (open_rows_given g)))
