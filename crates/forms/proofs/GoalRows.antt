@@ -1,6 +1,6 @@
 -- What `add_goal` answers, question by question, and what the code finds for it: the name, rows 11 and 13. Assumes nothing.
 use mathlib.Core.Path.{◌≡◌, ap, ◌∙◌}
-use mathlib.Core.Bool.{Bool, true, false}
+use mathlib.Core.Bool.{Bool}
 use Rattle.std.specs.Prelude.{Option, Some as some, None as nothing}
 use mathlib.Core.List.{List, [], ◌∷◌, ◌++◌}
 use Prim.Native.Nat.{ℕ, ◌+◌, ◌-◌, ◌*◌, ◌^◌, ◌<◌, ◌≤◌}
@@ -29,15 +29,8 @@ use Rattle.state.specs.declared.sizes.Sizes.{Sizes}
 use Rattle.state.specs.Held.{GoalsHeld}
 use Rattle.state.specs.Rows.{Fits4}
 use Rattle.state.specs.GoalLaws.{goals_long}
+use Rattle.forms.proofs.Variables.{is_new_lem, not_new}
 use Rattle.forms.specs.Goals.{GoalPlace, new_goal, GoalPlaced}
-
-is_new_lem : {A : Type 0} {o : Option A} → o ≡ nothing → is_new o ≡ true
-unfolding is_new
-is_new_lem {A} e = ap (λ (z : Option A). is_new z) e
-
-not_new : {A : Type 0} {o : Option A} {a : A} → o ≡ some a → is_new o ≡ false
-unfolding is_new
-not_new {A} e = ap (λ (z : Option A). is_new z) e
 
 -- The definition --------------------------------------------------------------------------------------------------------------------
 
@@ -64,27 +57,27 @@ module _ (x : Sexp) (hs : Trees) (j : Tree) (S : State) where
     unfolding then
     goal_twice_lem e =
         goal_asked
-        ∙ ap (λ (z : Bool). after_name (record { start = p; bytes = bs }) z (ltb (length S.goals) GOALS) (leb (entries S + count_trees hs) ENTRIES)) (not_new e)
+        ∙ ap (λ (z : Bool). after_name (record { start = p; bytes = bs }) z (ltb (length S.goals) GOALS) (leb (entries S + count_trees hs) ENTRIES)) (not_new (goal_named S.goals bs) e)
 
     module _ (f : goal_named S.goals bs ≡ nothing) where
       goal_11 : GOALS ≤ length S.goals → add_goal x hs j S ≡ refuse 60 11 S
       unfolding then
       goal_11 l =
-          goal_asked ∙ (λ i. after_name (record { start = p; bytes = bs }) (is_new_lem f i) (le-ltb (length S.goals) GOALS l i) (leb (entries S + count_trees hs) ENTRIES))
+          goal_asked ∙ (λ i. after_name (record { start = p; bytes = bs }) (is_new_lem (goal_named S.goals bs) f i) (le-ltb (length S.goals) GOALS l i) (leb (entries S + count_trees hs) ENTRIES))
 
       module _ (l : length S.goals < GOALS) where
         goal_13 : ENTRIES < entries S + count_trees hs → add_goal x hs j S ≡ refuse 60 13 S
         unfolding then
         goal_13 k =
             goal_asked
-            ∙ (λ i. after_name (record { start = p; bytes = bs }) (is_new_lem f i) (lt-ltb (length S.goals) GOALS l i) (lt-leb (entries S + count_trees hs) ENTRIES k i))
+            ∙ (λ i. after_name (record { start = p; bytes = bs }) (is_new_lem (goal_named S.goals bs) f i) (lt-ltb (length S.goals) GOALS l i) (lt-leb (entries S + count_trees hs) ENTRIES k i))
 
         goal_added : entries S + count_trees hs ≤ ENTRIES →
             add_goal x hs j S ≡ ok tt (with_goals S (S.goals ++ (new_goal (record { start = p; bytes = bs }) j hs ∷ [])))
         unfolding then
         goal_added k =
             goal_asked
-            ∙ (λ i. after_name (record { start = p; bytes = bs }) (is_new_lem f i) (lt-ltb (length S.goals) GOALS l i) (le-leb (entries S + count_trees hs) ENTRIES k i))
+            ∙ (λ i. after_name (record { start = p; bytes = bs }) (is_new_lem (goal_named S.goals bs) f i) (lt-ltb (length S.goals) GOALS l i) (le-leb (entries S + count_trees hs) ENTRIES k i))
 
 -- The code --------------------------------------------------------------------------------------------------------------------------
 

@@ -1,13 +1,11 @@
 -- What `add_rule_hyp` answers: the numbers of its premises come behind its own entry, its generalised variables behind these. Assumes nothing.
 use mathlib.Core.Path.{◌≡◌, refl, sym, ap, ◌∙◌, subst}
-use mathlib.Core.Bool.{true, false}
 use mathlib.Core.List.{List, ◌++◌}
 use Prim.Native.Nat.{ℕ, ◌+◌, ◌-◌, ◌*◌, ◌≤◌}
 use native.Mathlib.Omega.{arith}
-use lib.Dec.{ltb}
 use lib.ListN.{length, take, drop, replicate}
 use lib.Seq.{sets}
-use Rattle.std.specs.Prelude.{Ok, Err, Option, None as nothing}
+use Rattle.std.specs.Prelude.{min, Ok, Err, Option, None as nothing}
 use Rattle.rules.specs.Limits.{VARIABLES, FACTS, ENTRIES}
 use Rattle.rules.specs.Out.{Out, then, found}
 use Rattle.rules.specs.Sexp.{Sexps, item, count, rest}
@@ -89,7 +87,7 @@ module _ {K : Names} {facts lists : List ℕ} {n : Sizes} {I W : List ℕ} {m : 
 -- The lists ------------------------------------------------------------------------------------------------------------------------------
 
 module _ {K : Names} {facts lists : List ℕ} {n : Sizes} {I W : List ℕ} {m : Mark} {cells : List ℕ} (g : AddsFact K facts lists n I W m cells 5) {from : ℕ}
-    (e_from : from ≡ elim (ltb n.entries (length lists)) [ true ↦ n.entries + 1 | false ↦ length lists ]) where
+    (e_from : from ≡ min (length lists) (n.entries + 1)) where
   rec : Recorded (records facts g.footings lists) n (made I W m) g.S
   rec = g.refers.recorded
 
@@ -100,7 +98,7 @@ module _ {K : Names} {facts lists : List ℕ} {n : Sizes} {I W : List ℕ} {m : 
   from_low = omega (arith, length_listed rec, behind_low n.entries (length lists) e_from (entries_inside rec))
 
   pub from_high : from ≤ length lists
-  from_high = behind_high n.entries (length lists) e_from (entries_inside rec)
+  from_high = behind_high n.entries (length lists) e_from
 
   from_most : from ≤ ENTRIES
   from_most = omega (arith, from_high, lists_long rec)

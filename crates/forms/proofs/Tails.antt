@@ -1,14 +1,12 @@
 -- The tail of a table, lent and written: zero before, filled, cleared again. Assumes nothing.
 use mathlib.Core.Path.{◌≡◌, sym, ap, ◌∙◌}
-use mathlib.Core.Bool.{true, false}
 use mathlib.Core.List.{List, ◌++◌, append-nil, append_assoc}
 use Prim.Native.Nat.{ℕ, ◌+◌, ◌-◌, ◌<◌, ◌≤◌}
 use native.Mathlib.Omega.{arith}
-use native.Mathlib.Decide.{dec_lt}
-use lib.Dec.{ltb}
+use Rattle.std.specs.Prelude.{min}
+use Rattle.std.proofs.Math.Nat.{min-le_left, min-eq_right, le-min}
 use lib.ListN.{length, take, drop, replicate, length-append, length-drop, drop_of_length-le, take-append-drop}
 use lib.Seq.{sets, sets-eq, take_all, take_at, drop-drop, drop-append-add, length-take-le}
-use borrow.Author.Tests.{lt-ltb, le-ltb}
 use Rattle.rules.specs.TheoryTables.{filled}
 use Rattle.rules.specs.Laws.Row.{filled_fits}
 use Rattle.state.specs.Filled.{drop_zeros}
@@ -91,24 +89,17 @@ module _ (L : List ℕ) (N : ℕ) (long : length L ≡ N) (at : ℕ) (m : at ≤
       let zeros : last ≡ drop at L = c ∙ ap (λ j. replicate j 0) i ∙ sym zero in
       tailed_is L' at last ∙ (λ j. front j ++ zeros j) ∙ take-append-drop at L
 
--- Behind one entry more ----------------------------------------------------------------------------------------------------------------
+-- Behind one entry more, as far as there is room ---------------------------------------------------------------------------------------
 
-module _ (used all : ℕ) where
-  pub behind_some : used < all → used + 1 ≡ elim (ltb used all) [ true ↦ used + 1 | false ↦ all ]
-  behind_some l = sym (ap (λ b. elim b [ true ↦ used + 1 | false ↦ all ]) (lt-ltb used all l))
+module _ (used all : ℕ) {from : ℕ} (e : from ≡ min all (used + 1)) where
+  pub behind_is : used < all → from ≡ used + 1
+  behind_is l = e ∙ min-eq_right (let z : used + 1 ≤ all = omega (arith, l) in z)
 
-  pub behind_none : all ≤ used → all ≡ elim (ltb used all) [ true ↦ used + 1 | false ↦ all ]
-  behind_none l = sym (ap (λ b. elim b [ true ↦ used + 1 | false ↦ all ]) (le-ltb used all l))
+  pub behind_high : from ≤ all
+  behind_high = omega (arith, e, min-le_left all (used + 1))
 
-  module _ {from : ℕ} (e : from ≡ elim (ltb used all) [ true ↦ used + 1 | false ↦ all ]) where
-    pub behind_is : used < all → from ≡ used + 1
-    behind_is l = e ∙ sym (behind_some l)
-
-    pub behind_low : used ≤ all → used ≤ from
-    behind_low h = elim (dec_lt used all) [ yes l ↦ omega (arith, behind_is l) | no q ↦ omega (arith, e ∙ sym (behind_none (omega arith))) ]
-
-    pub behind_high : used ≤ all → from ≤ all
-    behind_high h = elim (dec_lt used all) [ yes l ↦ omega (arith, behind_is l) | no q ↦ omega (arith, e ∙ sym (behind_none (omega arith))) ]
+  pub behind_low : used ≤ all → used ≤ from
+  behind_low h = omega (arith, e, le-min {k = used} {a = all} {b = used + 1} h (omega arith))
 
 -- cells that were zero, cleared
 pub zero_again : {before : List ℕ} (out : List ℕ) {last : List ℕ} → before ≡ replicate (length before) 0 → length out ≡ length before →

@@ -80,6 +80,7 @@ pub fn add_goal(
         AimedAs given.now board.old board.new store.old store.new g.S (goal a_goal g.xs g.S) result }
 {
     let at = items::place(cells, 2);
+    // a copy, whose references may be lent for as short as the board's
     let own = *given;
     let judgment = reader_of(&own, board).judgment(store, &cells[at..])?;
     let stated = Stated {
@@ -105,6 +106,7 @@ pub fn add_goal_with(
 {
     let n = board.n;
     let from = n.entries;
+    // the tables of names apart from the lists, which are written meanwhile
     let vars = &mut *board.vars;
     let defs = &mut *board.defs;
     let lists = &mut *board.lists;

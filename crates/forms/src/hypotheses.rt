@@ -1,5 +1,5 @@
 // `(hyp N JUDGMENT)` and `(hyp N (PREMISE...) JUDGMENT (VAR...))`: facts that are assumed, each resting on itself.
-ghost use Rattle.std.specs.Prelude.{◌≡◌, true, false, List, ℕ, ◌+◌, ◌*◌, ◌^◌, ◌<◌, ◌≤◌, ltb, length, replicate};
+ghost use Rattle.std.specs.Prelude.{◌≡◌, List, ℕ, ◌+◌, ◌*◌, ◌^◌, ◌<◌, ◌≤◌, length, replicate};
 ghost use Rattle.rules.specs.Limits.{VARIABLES, FACTS};
 ghost use Rattle.rules.specs.Sexp.{item, count};
 ghost use Rattle.rules.specs.Forms.{add_hyp, add_rule_hyp};
@@ -54,8 +54,9 @@ pub fn add_hyp(
         AssumedAs board.old board.new g.footings store.old store.new g.S (add_hyp g.xs g.S) result }
 {
     let at = items::place(cells, 2);
-    let given = *given;
-    let judgment = reader_of(&given, board).judgment(store, &cells[at..])?;
+    // a copy, whose references may be lent for as short as the board's
+    let own = *given;
+    let judgment = reader_of(&own, board).judgment(store, &cells[at..])?;
     put_behind(board, judgment, 0, 0).map_err(Question::Room)
 }
 
@@ -109,17 +110,6 @@ fn put_rule(
     put_behind(board, judgment, premises, many)
 }
 
-// The place behind the entry of one more fact, or that behind all entries.
-fn behind_own(used: usize, all: usize) -> usize
-    requires { used ≤ all }
-    ensures { result ≡ elim (ltb used all) [ true ↦ used + 1 | false ↦ all ] }
-{
-    if used < all {
-        return used + 1;
-    }
-    all
-}
-
 // `(hyp N (PREMISE...) JUDGMENT (VAR...))`, by the items of the form.
 pub fn add_rule_hyp(
     given: &Given<'_>,
@@ -134,10 +124,12 @@ pub fn add_rule_hyp(
         AssumedAs board.old board.new g.footings store.old store.new g.S (add_rule_hyp g.xs g.S) result }
 {
     let n = board.n;
+    // the tables of names apart from the lists, which are written meanwhile
     let vars = &mut *board.vars;
     let defs = &mut *board.defs;
     let lists = &mut *board.lists;
-    let from = behind_own(n.entries, lists.len());
+    // behind its own entry, as far as there is room
+    let from = lists.len().min(n.entries + 1);
     let stated = read_stated(given, vars, defs, n, store, cells, &mut lists[from..])?;
     let mut general = [0u32; VARIABLES];
     let Some(many) = general_vars(given, board, cells, &mut general) else {

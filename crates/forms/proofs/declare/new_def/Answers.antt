@@ -2,7 +2,7 @@ use borrow.Author.Tests.{not-true, not-false}
 use native.Mathlib.Omega.{arith}
 use Rattle.sexp.specs.NthItem.{place_high}
 use Rattle.sexp.specs.AtomText.{atom_high}
-use Rattle.forms.proofs.Abbreviations.{def_no_name, def_name, def_no_mark, def_too_short, def_item, def_term_no, def_defs, def_again, def_full, def_named}
+use Rattle.forms.proofs.Abbreviations.{def_no_name, def_name, def_no_mark, def_too_short, def_item, def_term_no, def_again, def_full, def_named}
 use Rattle.kernel.proofs.Handed.{handed}
 use mathlib.Core.Path.{ap}
 use mathlib.Core.Bool.{not}
@@ -41,10 +41,6 @@ term-requires c = rw c.reader_of.ensures (def_item c.requires c.nth.ensures c.in
 
 pub slice_bounds-def_named-end-2 : goal.slice_bounds-def_named-end-2
 slice_bounds-def_named-end-2 c = atom_high _ _ _ (def_name c.requires c.nth.ensures c.in-Atom.is).inside c.atom_end-end.ensures
-
-pub def_named-requires : goal.def_named-requires
-def_named-requires c = let r = rw c.reader_of.ensures at c.in_ok-typed.ensures.typed_as in def_defs c.requires c.nth.ensures c.in-Atom.is c.marked.ensures (not-false _ (ap not c.if-not-marked.false)) c.atom_end-end.ensures c.if-end-start.false
-    c.place-at.ensures r
 
 pub returns-in_default-def_named-clause-named_as : goal.returns-in_default-def_named-clause-named_as
 returns-in_default-def_named-clause-named_as c = λ g. let r = rw c.reader_of.ensures at c.in_ok-typed.ensures.typed_as in def_again g c.nth.ensures c.in-Atom.is c.marked.ensures (not-false _ (ap not c.if-not-marked.false)) c.atom_end-end.ensures c.if-end-start.false

@@ -2,18 +2,15 @@ use mathlib.Core.Path.{refl, sym}
 use lib.Seq.{length-take-le}
 use Rattle.kernel.proofs.Handed.{handed}
 use Rattle.state.specs.Held.{records}
-use Rattle.forms.proofs.RuleHyps.{entries_inside, items_of, rule_zero, rule_stops, rule_unlisted, rule_asks, vars_inside, rule_added, rule_full}
+use Rattle.forms.proofs.RuleHyps.{items_of, rule_zero, rule_stops, rule_unlisted, rule_asks, vars_inside, rule_added, rule_full}
 use Rattle.forms.proofs.hypotheses.add_rule_hyp.Goals as goal
 
-pub behind_own-from-requires : goal.behind_own-from-requires
-behind_own-from-requires c = entries_inside c.requires.refers.recorded
-
 pub read_stated-requires-clause-out_value : goal.read_stated-requires-clause-out_value
-read_stated-requires-clause-out_value c = rule_zero c.requires c.behind_own-from.ensures
+read_stated-requires-clause-out_value c = rule_zero c.requires c.min-from.ensures
 
 pub returns-in_err-stated-clause-assumed_as : goal.returns-in_err-stated-clause-assumed_as
 returns-in_err-stated-clause-assumed_as c = λ g. rw (handed c.from_residual.result c.from_residual.ensures)
-    (let h = rule_stops g c.behind_own-from.ensures c.in_err-stated.ensures.stated_as in (h.0, h.1, refl))
+    (let h = rule_stops g c.min-from.ensures c.in_err-stated.ensures.stated_as in (h.0, h.1, refl))
 
 pub general_vars-requires-clause-items : goal.general_vars-requires-clause-items
 general_vars-requires-clause-items c = (items_of c.requires, c.requires.many)
@@ -21,7 +18,7 @@ general_vars-requires-clause-items c = (items_of c.requires, c.requires.many)
 pub returns-in_default-clause-assumed_as : goal.returns-in_default-clause-assumed_as
 returns-in_default-clause-assumed_as c = λ g.
     let v = c.in_default.ensures (items_of g) g.many in
-    let h = rule_unlisted g c.behind_own-from.ensures c.in_ok-stated.ensures.stated_as c.read_stated.auto.out v.0 refl c.clear.ensures in
+    let h = rule_unlisted g c.min-from.ensures c.in_ok-stated.ensures.stated_as c.read_stated.auto.out v.0 refl c.clear.ensures in
     (h.0, h.1, refl)
 
 pub slice_bounds-general-end : goal.slice_bounds-general-end
@@ -34,15 +31,15 @@ slice_bounds-put_rule-end c = sym (length-take-le c.in-Some.many c.general_vars.
 pub put_rule-requires : goal.put_rule-requires
 put_rule-requires c = (
   c.requires.footings,
-  rule_asks c.requires c.behind_own-from.ensures c.in_ok-stated.ensures.stated_as c.read_stated.auto.out refl,
+  rule_asks c.requires c.min-from.ensures c.in_ok-stated.ensures.stated_as c.read_stated.auto.out refl,
 )
 
 pub returns-in-Ok-clause-assumed_as : goal.returns-in-Ok-clause-assumed_as
-returns-in-Ok-clause-assumed_as c = λ g. rule_added g c.behind_own-from.ensures c.in_ok-stated.ensures.stated_as c.read_stated.auto.out
+returns-in-Ok-clause-assumed_as c = λ g. rule_added g c.min-from.ensures c.in_ok-stated.ensures.stated_as c.read_stated.auto.out
     (c.in-Some.ensures (items_of g) g.many) refl (records c.put_rule.new.board.facts.now g.footings c.put_rule.new.board.lists.now) c.put_rule.new.board.n
     c.in-Ok.ensures.put_as
 
 pub returns-in-Err-clause-assumed_as : goal.returns-in-Err-clause-assumed_as
-returns-in-Err-clause-assumed_as c = λ g. rule_full g c.behind_own-from.ensures c.in_ok-stated.ensures.stated_as c.read_stated.auto.out
+returns-in-Err-clause-assumed_as c = λ g. rule_full g c.min-from.ensures c.in_ok-stated.ensures.stated_as c.read_stated.auto.out
     (c.in-Some.ensures (items_of g) g.many) refl (records c.put_rule.new.board.facts.now g.footings c.put_rule.new.board.lists.now) c.put_rule.new.board.n
     c.in-Err.row c.in-Err.ensures.put_as c.clear-in-Err.ensures

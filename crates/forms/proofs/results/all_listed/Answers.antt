@@ -1,10 +1,7 @@
-use Rattle.forms.proofs.Covering.{listing_start, listing_asks, listing_more, listing_stops, listing_end}
+use Rattle.forms.proofs.Covering.{listing_asks, listing_more, listing_stops, listing_end}
 use mathlib.Core.Path.{ap}
 use mathlib.Core.Bool.{not}
 use Rattle.forms.proofs.results.all_listed.Goals as goal
-
-pub loop-h-init : goal.loop-h-init
-loop-h-init c = listing_start _ _ _
 
 pub is_listed-requires : goal.is_listed-requires
 is_listed-requires c = listing_asks _ _ _ _ c.loop-h.invariant c.loop-h-test.true c.requires

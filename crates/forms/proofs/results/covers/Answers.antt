@@ -35,12 +35,6 @@ offset_bounds-board-from c = omega (
   lists_long c.requires.recorded,
 )
 
-pub slice_bounds-all_listed-count : goal.slice_bounds-all_listed-count
-slice_bounds-all_listed-count c = own_low c.requires c.goal_hyps-aims.ensures c.hyps-own.ensures
-
-pub slice_bounds-all_listed-start : goal.slice_bounds-all_listed-start
-slice_bounds-all_listed-start c = own_low c.requires c.goal_hyps-aims.ensures c.hyps-own.ensures
-
 pub slice_bounds-all_listed-end-2 : goal.slice_bounds-all_listed-end-2
 slice_bounds-all_listed-end-2 c = own_high c.requires c.goal_hyps-aims.ensures c.hyps-own.ensures
 
