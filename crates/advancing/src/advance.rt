@@ -50,7 +50,7 @@ fn fact_in(facts: &[u32], footings: &[u64], i: usize) -> Fact
         hyps: facts[at + 3],
         premises: facts[at + 4],
         general: facts[at + 5],
-        footing: footing,
+        footing,
     }
 }
 
