@@ -33,7 +33,7 @@ use Rattle.terms.specs.Laws.Growth.{made_length, grown_refl, grown_trans}
 use Rattle.terms.specs.Laws.Bound.{bound_grown, cells_grown, build_is}
 use Rattle.terms.specs.Laws.Theta.{replacement_grown, theta_grown, along_is}
 use Rattle.terms.specs.Laws.Sets.{plus_has}
-use Rattle.kernel.specs.declared.rule_readers.Span.{Span}
+use Rattle.cells.specs.declared.Span.{Span}
 use Rattle.kernel.specs.Readers.{WordsAt}
 use Rattle.kernel.specs.Entries.{rule_formed}
 use Rattle.state.specs.declared.sizes.Sizes.{Sizes}

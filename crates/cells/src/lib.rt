@@ -1,4 +1,4 @@
-// Cells of tables as such: set to zero, or copied. Whoever means a part of a table lends that part.
+// Cells of tables as such: parts of them, set to zero, copied. Whoever means a part of a table lends that part.
 #![tactic(auto)]
 
 ghost use Rattle.std.specs.Prelude.{◌≡◌, ◌++◌, ◌≤◌, length, drop, replicate};
@@ -21,6 +21,13 @@ impl Cell for u64 {
     ghost ZERO = { 0 };
 
     const ZERO: u64 = 0;
+}
+
+// A part of a table, or of a text: the first place, and the place behind the last.
+#[derive(Clone, Copy, Debug, PartialEq, Eq)]
+pub struct Span {
+    pub from: usize,
+    pub end: usize,
 }
 
 // Every cell becomes 0.

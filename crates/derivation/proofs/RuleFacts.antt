@@ -23,7 +23,7 @@ use Rattle.terms.specs.Sets.{holds}
 use Rattle.terms.specs.Theta.{bindings}
 use Rattle.terms.specs.Laws.Sets.{holds_zero}
 use Rattle.terms.specs.Laws.Theta.{binding, bindings_zero, bindings_some}
-use Rattle.state.specs.declared.facts.Span.{Span}
+use Rattle.cells.specs.declared.Span.{Span}
 use Rattle.state.specs.Held.{records}
 use Rattle.state.specs.Rows.{cell, hyps_span, premises_span, general_span, plain_row}
 use Rattle.state.specs.Entries.{part}

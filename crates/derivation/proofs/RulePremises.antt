@@ -22,7 +22,7 @@ use Rattle.terms.specs.Table.{args_of}
 use Rattle.terms.specs.Sets.{plus}
 use Rattle.terms.specs.Laws.Sets.{plus_has, plus_union}
 use Rattle.state.specs.declared.sizes.Sizes.{Sizes}
-use Rattle.state.specs.declared.facts.Span.{Span}
+use Rattle.cells.specs.declared.Span.{Span}
 use Rattle.state.specs.Held.{records, Recorded}
 use Rattle.state.specs.Rows.{cell, hyps_span, premises_span}
 use Rattle.state.specs.Entries.{part, part_at}

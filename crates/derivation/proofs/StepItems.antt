@@ -11,7 +11,7 @@ use Rattle.rules.specs.Store.{Made}
 use Rattle.rules.specs.Theory.{Theory, rule}
 use Rattle.rules.specs.Step.{Items, no_items, read_items}
 use Rattle.kernel.specs.Readers.{FormedRules, WordsAt, conclusion_at}
-use Rattle.kernel.specs.declared.rule_readers.Span.{Span}
+use Rattle.cells.specs.declared.Span.{Span}
 use Rattle.terms.specs.declared.store.Mark.{Mark}
 use Rattle.terms.specs.Table.{made, tree, args_of}
 use Rattle.terms.specs.Sets.{holds}

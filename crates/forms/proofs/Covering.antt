@@ -25,7 +25,7 @@ use Rattle.rules.specs.Laws.Keeping.{Each}
 use Rattle.rules.specs.Laws.Sound.{In, sound}
 use Rattle.terms.specs.Sets.{holds}
 use Rattle.state.specs.declared.sizes.Sizes.{Sizes}
-use Rattle.state.specs.declared.facts.Span.{Span}
+use Rattle.cells.specs.declared.Span.{Span}
 use Rattle.state.specs.Held.{records, Recorded}
 use Rattle.state.specs.Rows.{cell, plain_row, list_span, hyps_span}
 use Rattle.state.specs.Entries.{part}

@@ -26,7 +26,7 @@ use Rattle.terms.specs.Laws.Growth.{made_length, grown_tree, grown_there, grown_
 use Rattle.terms.specs.Laws.Theta.{bindings_grown, theta_grown, along_is}
 use Rattle.terms.specs.Laws.Bound.{bound_grown, cells_grown}
 use Rattle.state.specs.declared.sizes.Sizes.{Sizes}
-use Rattle.state.specs.declared.facts.Span.{Span}
+use Rattle.cells.specs.declared.Span.{Span}
 use Rattle.state.specs.Rows.{hyps_span}
 use Rattle.state.specs.Entries.{part}
 use Rattle.state.specs.RowTables.{tabled_long}

@@ -18,7 +18,7 @@ use Rattle.sexp.specs.AtomText.{Spans, spans_low, spans_high, spans_part}
 use Rattle.kernel.specs.HeldRules.{RulesHeld}
 use Rattle.kernel.specs.Readers.{KnownRule, FormedRules}
 use Rattle.kernel.specs.Entries.{rule_formed}
-use Rattle.kernel.specs.declared.rule_readers.Span.{Span}
+use Rattle.cells.specs.declared.Span.{Span}
 use Rattle.terms.specs.declared.store.Mark.{Mark}
 use Rattle.terms.specs.Table.{made, tree}
 use Rattle.terms.specs.Sets.{holds}

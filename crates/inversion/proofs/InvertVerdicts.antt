@@ -20,7 +20,7 @@ use Rattle.rules.specs.Laws.Theory.{all_at}
 use Rattle.rules.specs.Laws.Tree.{same_self, not_same}
 use Rattle.rules.specs.Laws.Store.{Apart}
 use Rattle.state.specs.declared.sizes.Sizes.{Sizes}
-use Rattle.state.specs.declared.facts.Span.{Span}
+use Rattle.cells.specs.declared.Span.{Span}
 use Rattle.state.specs.Held.{records}
 use Rattle.state.specs.Rows.{cell, hyps_span}
 use Rattle.state.specs.Entries.{part}

@@ -30,7 +30,7 @@ use Rattle.terms.specs.On.{Went, Stopped}
 use Rattle.kernel.specs.HeldRules.{RulesHeld}
 use Rattle.kernel.specs.Readers.{FormedRules}
 use Rattle.state.specs.declared.sizes.Sizes.{Sizes}
-use Rattle.state.specs.declared.facts.Span.{Span}
+use Rattle.cells.specs.declared.Span.{Span}
 use Rattle.state.specs.Rows.{hyps_span}
 use Rattle.state.specs.Entries.{part}
 use Rattle.state.specs.Held.{VarsHeld, Names as Texts, RuleLists, Ruled}

@@ -14,9 +14,10 @@ ghost use Rattle.inversion.specs.Inverting.{JudgingIn, JudgedAs, VerdictIn};
 
 use crate::inverting::Inverting;
 use casework::context::{Grounds, Renamed, context_facts, no_grounds, rests_on_all, rule_premises};
+use cells::Span;
 use questions::Question;
 use referring::source::Facts;
-use state::facts::{Span, hyps as hyps_of, is_fact, judgment};
+use state::facts::{hyps as hyps_of, is_fact, judgment};
 use terms::store::Store;
 use terms::substitute::substitute;
 

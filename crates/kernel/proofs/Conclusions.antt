@@ -16,7 +16,7 @@ use Rattle.kernel.specs.Held.{SymbolsHeld}
 use Rattle.kernel.specs.HeldRules.{RulesHeld}
 use Rattle.kernel.specs.Readers.{KnownRule, KnownWord, arguments_behind, WordsAt, FormedRules, KnownFormedRule, conclusion_at}
 use Rattle.kernel.specs.Entries.{known_symbol, known_rule}
-use Rattle.kernel.specs.declared.rule_readers.Span.{Span}
+use Rattle.cells.specs.declared.Span.{Span}
 use Rattle.kernel.specs.RuleRows.{words_here}
 use Rattle.kernel.proofs.RuleStore.{count_few}
 

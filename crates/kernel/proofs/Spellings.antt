@@ -25,7 +25,7 @@ use Rattle.sexp.specs.FoundLaws.{found_at, found_missing}
 use Rattle.sexp.specs.NameRows.{NameIn}
 use Rattle.questions.specs.declared.Question.{Question}
 use Rattle.questions.specs.declared.Question.TheVariants.{Declared}
-use Rattle.kernel.specs.declared.rule_readers.Span.{Span as Place}
+use Rattle.cells.specs.declared.Span.{Span as Place}
 
 pub proper_none : (p : ℕ) (bs : List ℕ) → marked bs ≡ true → proper (atom p bs) ≡ nothing
 unfolding proper

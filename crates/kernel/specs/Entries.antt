@@ -13,7 +13,7 @@ use Rattle.kernel.specs.HeldRules.{RulesHeld}
 use Rattle.kernel.specs.Parsed.{TheoryLists, TheoryHeld}
 use Rattle.kernel.specs.Readers.{KnownSymbol, KnownInput, KnownRule, KnownVar, NamedVars, WordsAt, FormedRules, KnownFormedRule, conclusion_at}
 use Rattle.kernel.specs.declared.tables.Counts.{Counts}
-use Rattle.kernel.specs.declared.rule_readers.Span.{Span}
+use Rattle.cells.specs.declared.Span.{Span}
 
 -- Entries that are there ---------------------------------------------------------------------------------------------------------
 

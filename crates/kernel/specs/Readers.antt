@@ -6,7 +6,7 @@ use Rattle.rules.specs.TheoryTables.{prefixes, pattern_row, pattern_cells}
 use Rattle.rules.specs.Laws.Theory.{WellFormed}
 use Rattle.kernel.specs.Held.{SymbolsHeld, SomeSymbolsHeld}
 use Rattle.kernel.specs.HeldRules.{RulesHeld, SomeRules}
-use Rattle.kernel.specs.declared.rule_readers.Span.{Span}
+use Rattle.cells.specs.declared.Span.{Span}
 
 -- Symbols ------------------------------------------------------------------------------------------------------------------------
 

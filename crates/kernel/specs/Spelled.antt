@@ -4,7 +4,7 @@ use Rattle.rules.specs.Sexp.{Sexps, Name, count}
 use Rattle.sexp.specs.Items.{Holds}
 use Rattle.questions.specs.declared.Question.{Question}
 use Rattle.questions.specs.declared.Question.TheVariants.{Declared}
-use Rattle.kernel.specs.declared.rule_readers.Span.{Span}
+use Rattle.cells.specs.declared.Span.{Span}
 
 -- the items of a list that has one with that number
 pub record Reaching (text words : List ℕ) (number : ℕ) : Type 0 where

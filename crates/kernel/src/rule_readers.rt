@@ -14,6 +14,7 @@ ghost use Rattle.kernel.specs.Readers.{KnownRule, KnownVar, NamedRules, NamedVar
 ghost use Rattle.kernel.specs.Listing.{next_rule};
 
 use crate::readers::arity;
+use cells::Span;
 use sexp::names::named;
 
 // The rows of rules, their variables, the words of their patterns.
@@ -22,13 +23,6 @@ pub struct Rules<'a> {
     pub rows: &'a [u32],
     pub vars: &'a [u32],
     pub patterns: &'a [u32],
-}
-
-// A part of the words of patterns, or of the text: the first place, and the place behind the last.
-#[derive(Clone, Copy, Debug, PartialEq, Eq)]
-pub struct Span {
-    pub from: usize,
-    pub end: usize,
 }
 
 // The part that two cells of a table give, the first of them at that place.

@@ -13,9 +13,9 @@ ghost use Rattle.kernel.specs.Tables.{SameTables, Holding, HoldingSome, Leaving}
 
 use crate::atoms::put_name;
 use crate::names::{Kind, symbol_named};
-use crate::rule_readers::Span;
 use crate::symbols::{proper_at, sort};
 use crate::tables::Tables;
+use cells::Span;
 use questions::{Question, Row};
 use sexp::items;
 use sexp::items::Item;

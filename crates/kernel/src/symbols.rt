@@ -14,8 +14,8 @@ ghost use Rattle.kernel.specs.Held.{Form};
 ghost use Rattle.kernel.specs.Tables.{SameTables, Holding, HoldingSome, Leaving};
 
 use crate::atoms::{marked, put_name};
-use crate::rule_readers::Span;
 use crate::tables::Tables;
+use cells::Span;
 use questions::{Question, Row};
 use sexp::items::Item;
 use sexp::names::named;

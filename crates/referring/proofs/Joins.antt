@@ -15,7 +15,7 @@ use Rattle.rules.specs.Laws.Theory.{all_at}
 use Rattle.rules.specs.Laws.Set.{union_empty}
 use Rattle.terms.specs.Sets.{holds, plus}
 use Rattle.terms.specs.Laws.Sets.{plus_has}
-use Rattle.state.specs.declared.facts.Span.{Span}
+use Rattle.cells.specs.declared.Span.{Span}
 use Rattle.state.specs.Held.{records}
 use Rattle.state.specs.Rows.{hyps_span}
 use Rattle.state.specs.FactLaws.{FactRow, fact_row_lem, lists_long}

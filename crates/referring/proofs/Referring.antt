@@ -30,7 +30,7 @@ use Rattle.terms.specs.On.{On, Went, Stopped, on_start, on_ok, on_no, on_pure, o
 use Rattle.terms.specs.Laws.Growth.{made_length, grown_tree, grown_there}
 use Rattle.terms.specs.Laws.Numbers.{stored_is}
 use Rattle.state.specs.declared.sizes.Sizes.{Sizes}
-use Rattle.state.specs.declared.facts.Span.{Span}
+use Rattle.cells.specs.declared.Span.{Span}
 use Rattle.state.specs.Held.{Names, records, Recorded}
 use Rattle.state.specs.Rows.{cell, hyps_span}
 use Rattle.state.specs.Entries.{part_long}

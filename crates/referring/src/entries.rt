@@ -5,7 +5,8 @@ ghost use Rattle.state.specs.Entries.{part};
 ghost use Rattle.referring.specs.Recall.{RecallsFact};
 
 use crate::source::Facts;
-use state::facts::{Span, general, hyps, premises};
+use cells::Span;
+use state::facts::{general, hyps, premises};
 
 impl<'a> Facts<'a> {
     // The hypotheses of fact i.

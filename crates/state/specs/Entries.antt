@@ -8,7 +8,7 @@ use Rattle.rules.specs.State.{Goal, Fact, goal_entries, fact_entries, all_entrie
 use Rattle.rules.specs.TheoryTables.{filled, rows}
 use Rattle.rules.specs.StateTables.{numbers, goal_list, fact_list}
 use Rattle.rules.specs.Laws.Row.{rows_snoc}
-use Rattle.state.specs.declared.facts.Span.{Span}
+use Rattle.cells.specs.declared.Span.{Span}
 use Rattle.state.specs.Filled.{filled_part}
 use Rattle.state.specs.Numbered.{length_numbers}
 

@@ -7,7 +7,7 @@ use Rattle.rules.specs.Store.{Made}
 use Rattle.rules.specs.State.{Var, Def, Goal, abbreviated}
 use Rattle.state.specs.Held.{VarsHeld, DefsHeld, GoalsHeld, Records}
 use Rattle.state.specs.declared.sizes.Sizes.{Sizes}
-use Rattle.state.specs.declared.facts.Span.{Span}
+use Rattle.cells.specs.declared.Span.{Span}
 use Rattle.questions.specs.declared.Row.{Row}
 use Rattle.questions.specs.Numbers.{row_number}
 

@@ -17,7 +17,7 @@ use Rattle.kernel.specs.Readers.{WordsAt, FormedRules, words_before, conclusion_
 use Rattle.kernel.specs.SignatureRows.{arity_cell}
 use Rattle.kernel.specs.RuleRows.{words_here}
 use Rattle.kernel.specs.Entries.{rule_formed, conclusion_ends}
-use Rattle.kernel.specs.declared.rule_readers.Span.{Span}
+use Rattle.cells.specs.declared.Span.{Span}
 use Rattle.terms.specs.Patterns.{Stands, Standing, Fits, FitsAll, arity}
 
 -- Words in prefix notation -----------------------------------------------------------------------------------------------------------

@@ -9,15 +9,9 @@ ghost use Rattle.state.specs.Held.{records};
 ghost use Rattle.state.specs.Rows.{cell, hyps_span, premises_span, general_span, plain_row, Putting, PutAs};
 
 use crate::sizes::Sizes;
+use cells::Span;
 use questions::Row;
 use terms::sets::{count, union_into, write_out};
-
-// Entries of the lists: the first place, and the place behind the last.
-#[derive(Clone, Copy, Debug, PartialEq, Eq)]
-pub struct Span {
-    pub from: usize,
-    pub end: usize,
-}
 
 // Whether fact i is there: every look-up of a named fact asks this.
 pub fn is_fact(n: Sizes, i: usize) -> bool

@@ -7,7 +7,7 @@ ghost use Rattle.rules.specs.State.{Goal, goal_named};
 ghost use Rattle.state.specs.Held.{GoalsHeld};
 ghost use Rattle.state.specs.Rows.{cell, Fits4, SomeGoals, list_span};
 
-use crate::facts::Span;
+use cells::Span;
 use sexp::names::named;
 
 // The goal with these bytes for a name.

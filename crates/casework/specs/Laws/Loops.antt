@@ -15,7 +15,7 @@ use Rattle.rules.specs.Declare.{no_rule_var}
 use Rattle.rules.specs.State.{Var, sort_of_var}
 use Rattle.rules.specs.Invert.{suit}
 use Rattle.state.specs.declared.sizes.Sizes.{Sizes}
-use Rattle.state.specs.declared.facts.Span.{Span}
+use Rattle.cells.specs.declared.Span.{Span}
 use Rattle.state.specs.Rows.{cell, plain_row}
 use Rattle.state.specs.RowTables.{tabled_long}
 use Rattle.state.specs.FactLaws.{fact_row_lem, facts_tabled}

@@ -14,7 +14,7 @@ use Rattle.terms.specs.Table.{args_of, made, tree}
 use Rattle.terms.specs.Collect.{Readable, Visited}
 use Rattle.terms.specs.Laws.Growth.{made_length}
 use Rattle.state.specs.declared.sizes.Sizes.{Sizes}
-use Rattle.state.specs.declared.facts.Span.{Span}
+use Rattle.cells.specs.declared.Span.{Span}
 use Rattle.state.specs.Held.{records}
 use Rattle.state.specs.Rows.{cell, premises_span}
 use Rattle.state.specs.RowTables.{tabled_long}

@@ -14,7 +14,7 @@ use Rattle.terms.specs.Collect.{Seen}
 use Rattle.terms.specs.Laws.Sets.{holds_zero}
 use Rattle.terms.specs.Laws.Seen.{seen_wider}
 use Rattle.state.specs.declared.sizes.Sizes.{Sizes}
-use Rattle.state.specs.declared.facts.Span.{Span}
+use Rattle.cells.specs.declared.Span.{Span}
 use Rattle.state.specs.Rows.{general_span}
 use Rattle.state.specs.Entries.{part, part_none}
 use Rattle.referring.specs.Recall.{fact_of, Recalls}
