@@ -19,7 +19,9 @@ use Rattle.kernel.specs.Held.{SortsHeld}
 use Rattle.kernel.specs.Parsed.{TheoryLists, theory_tables, LaidHeld}
 use Rattle.sexp.specs.NameRows.{NameIn}
 use Rattle.terms.specs.declared.store.Mark.{Mark}
+use Rattle.terms.specs.declared.store.Store.{Store}
 use Rattle.terms.specs.Table.{made, Good}
+use Rattle.state.specs.declared.board.Board.{Board as Lent}
 use Rattle.state.specs.declared.sizes.Sizes.{Sizes}
 use Rattle.state.specs.Held.{text_of, names, Spelling, GoalsHeld, records, Recorded, rule_lists, Ruled}
 use Rattle.state.specs.Used.{sizes_of}
@@ -50,6 +52,10 @@ pub record Board : Type 0 where
 
 abbrev pub board : (vars index words defs goals facts footings lists : List ℕ) → Board
 board v i w d g f b l = record { vars = v; index = i; words = w; defs = d; goals = g; facts = f; footings = b; lists = l }
+
+-- those that are lent, and the store's
+abbrev pub tables_of : Lent → Store → Board
+tables_of b s = board b.vars.now s.index.now s.words.now b.defs.now b.rows.now b.facts.now b.footings.now b.lists.now
 
 -- the trees of the store
 abbrev pub trees_of : Board → Mark → Made
