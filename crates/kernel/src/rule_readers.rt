@@ -117,50 +117,51 @@ fn arguments_behind(symbols: &[u32], word: usize) -> usize
     0
 }
 
-// The place of the first word of the conclusion of rule r: behind the words of its premises.
-pub fn conclusion(patterns: &[u32], rules: &[u32], symbols: &[u32], r: usize) -> usize
-    requires { KnownFormedRule symbols.now rules.now patterns.now r }
-    ensures { (T : Theory) (count : ℕ) → FormedRules symbols.now rules.now patterns.now count T → r < count →
-        result ≡ conclusion_at T r }
-{
-    let span = words(rules, r);
-    let mut place = span.from;
-    let mut left = premises(rules, r);
-    // over the words of the premises, which is no count: each word leaves its arguments to read
-    while left != 0 {
-        let more = arguments_behind(symbols, patterns[place] as usize);
-        left = left - 1 + more;
-        place += 1;
-    }
-    place
-}
-
-// Whether the conclusion of rule r is of that predicate.
-fn concludes(patterns: &[u32], rules: &[u32], symbols: &[u32], r: usize, predicate: usize) -> bool
-    requires { KnownFormedRule symbols.now rules.now patterns.now r }
-    ensures { (T : Theory) (count : ℕ) → FormedRules symbols.now rules.now patterns.now count T → r < count →
-        result ≡ head_is predicate (rule T r).conclusion }
-{
-    let place = conclusion(patterns, rules, symbols, r);
-    predicate == patterns[place] as usize
-}
-
-// The first rule of that predicate whose number is `from` or greater.
-pub fn next_rule(
-    rules: &[u32],
-    patterns: &[u32],
-    symbols: &[u32],
-    count: usize,
-    predicate: usize,
-    from: usize,
-) -> Option<usize>
-    requires { SomeFormedRules symbols.now rules.now patterns.now count }
-    ensures { (T : Theory) → FormedRules symbols.now rules.now patterns.now count T → result ≡ next_rule T predicate from }
-{
-    for i in from..count {
-        if concludes(patterns, rules, symbols, i, predicate) {
-            return Some(i);
+impl Rules<'_> {
+    // The place of the first word of the conclusion of rule r: behind the words of its premises.
+    pub fn conclusion(&self, symbols: &[u32], r: usize) -> usize
+        requires { KnownFormedRule symbols.now self.now.rows.now self.now.patterns.now r }
+        ensures { (T : Theory) (count : ℕ) → FormedRules symbols.now self.now.rows.now self.now.patterns.now count T → r < count →
+            result ≡ conclusion_at T r }
+    {
+        let span = words(self.rows, r);
+        let mut place = span.from;
+        let mut left = premises(self.rows, r);
+        // over the words of the premises, which is no count: each word leaves its arguments to read
+        while left != 0 {
+            let more = arguments_behind(symbols, self.patterns[place] as usize);
+            left = left - 1 + more;
+            place += 1;
         }
+        place
     }
-    None
+
+    // Whether the conclusion of rule r is of that predicate.
+    fn concludes(&self, symbols: &[u32], r: usize, predicate: usize) -> bool
+        requires { KnownFormedRule symbols.now self.now.rows.now self.now.patterns.now r }
+        ensures { (T : Theory) (count : ℕ) → FormedRules symbols.now self.now.rows.now self.now.patterns.now count T → r < count →
+            result ≡ head_is predicate (rule T r).conclusion }
+    {
+        let place = self.conclusion(symbols, r);
+        predicate == self.patterns[place] as usize
+    }
+
+    // The first rule of that predicate whose number is `from` or greater; `count` is how many there are.
+    pub fn next_rule(
+        &self,
+        symbols: &[u32],
+        count: usize,
+        predicate: usize,
+        from: usize,
+    ) -> Option<usize>
+        requires { SomeFormedRules symbols.now self.now.rows.now self.now.patterns.now count }
+        ensures { (T : Theory) → FormedRules symbols.now self.now.rows.now self.now.patterns.now count T → result ≡ next_rule T predicate from }
+    {
+        for i in from..count {
+            if self.concludes(symbols, i, predicate) {
+                return Some(i);
+            }
+        }
+        None
+    }
 }

@@ -1,6 +1,6 @@
 use Rattle.kernel.proofs.Conclusions.{rule_there, passing_start, passing_next, passing_word, passing_few, passing_on, passing_over}
 use native.Mathlib.Omega.{arith}
-use Rattle.kernel.proofs.rule_readers.conclusion.Goals as goal
+use Rattle.kernel.proofs.rule_readers.Rules.conclusion.Goals as goal
 
 pub words-span-requires : goal.words-span-requires
 words-span-requires c = rule_there c.requires
@@ -11,11 +11,11 @@ premises-left-requires c = rule_there c.requires
 pub loop-left-init : goal.loop-left-init
 loop-left-init c = passing_start _ _ c.words-span.ensures c.premises-left.ensures c.requires
 
-pub offset_bounds-patterns-place : goal.offset_bounds-patterns-place
-offset_bounds-patterns-place c = omega (arith, (passing_next c.loop-left.invariant c.loop-left-test.true).inside, c.well_formed.0)
+pub offset_bounds-self-place : goal.offset_bounds-self-place
+offset_bounds-self-place c = omega (arith, (passing_next c.loop-left.invariant c.loop-left-test.true).inside, c.well_formed.0)
 
-pub bounds-patterns-place : goal.bounds-patterns-place
-bounds-patterns-place c = (passing_next c.loop-left.invariant c.loop-left-test.true).inside
+pub bounds-self-place : goal.bounds-self-place
+bounds-self-place c = (passing_next c.loop-left.invariant c.loop-left-test.true).inside
 
 pub arguments_behind-more-requires : goal.arguments_behind-more-requires
 arguments_behind-more-requires c = passing_word c.loop-left.invariant c.loop-left-test.true

@@ -1,5 +1,5 @@
 use Rattle.kernel.proofs.Heads.{scanning_start, scanning_known, scanning_here, scanning_on, scanning_over}
-use Rattle.kernel.proofs.rule_readers.next_rule.Goals as goal
+use Rattle.kernel.proofs.rule_readers.Rules.next_rule.Goals as goal
 
 pub loop-i-init : goal.loop-i-init
 loop-i-init c = scanning_start _ _ c.requires
