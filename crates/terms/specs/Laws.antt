@@ -16,3 +16,4 @@ pub mod Patterns
 pub mod Answers
 pub mod Bound
 pub mod Seen
+pub mod Variable

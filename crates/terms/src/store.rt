@@ -2,8 +2,8 @@
 // A node is gathered by the caller, looked up by its bucket, and only a new one is written, behind the words that are used.
 ghost use Rattle.std.specs.Prelude.{◌≡◌, ◌++◌, ℕ, ◌+◌, ◌-◌, ◌≤◌, ◌<◌, length, get_or, drop, replicate};
 ghost use Rattle.std.specs.Bool.{Decides};
-ghost use Rattle.rules.specs.Limits.{TERMS, WORDS};
-ghost use Rattle.rules.specs.Tree.{is_open};
+ghost use Rattle.rules.specs.Limits.{TERMS, VARIABLES, WORDS};
+ghost use Rattle.rules.specs.Tree.{is_open, var};
 ghost use Rattle.rules.specs.Store.{keep};
 ghost use Rattle.terms.specs.Table.{INDEX, BUCKETS, run, start, tree_at, node_at, hash, flag, Shaped, Node, Good, settled, Part, Back};
 ghost use Rattle.terms.specs.Node.{seek, Linked, Unlinked, Held, HeldIn, HeadIs, OpenIs};
@@ -147,7 +147,7 @@ impl Terms<'_> {
     }
 }
 
-// Term n comes into the index, at the head of its bucket.
+// Term n comes into the index, at the head of its bucket. `has_variable` chooses no step: it is stored, as the term's flag.
 fn link(index: &mut [u32], n: usize, bucket: usize, end: usize, has_variable: bool)
     requires { (length index.old ≡ INDEX) × (n < TERMS) × (bucket < BUCKETS) × (end ≤ WORDS) }
     ensures { Linked index.old index.new n bucket end (flag has_variable) }
@@ -212,6 +212,15 @@ impl Store<'_> {
             words: end,
         };
         Ok(id)
+    }
+
+    // The variable v as a term.
+    pub fn keep_var(&mut self, v: usize) -> Result<usize, Row>
+        requires { GoodStore self.old × (v < VARIABLES) }
+        ensures same_tables { SameTables self.old self.new }
+        ensures kept { KeptAs self.old self.new (var v) (keep (var v) (made_of self.old)) result }
+    {
+        self.keep(&[(SYMBOLS + v) as u32])
     }
 
     // The last term is taken away.
