@@ -1,6 +1,6 @@
 use Rattle.std.proofs.Common.{◌∙◌, ap, not}
 use Rattle.terms.proofs.MatchLists.{match_stays, match_hits}
-use Rattle.terms.proofs.patterns.matches.Goals as goal
+use Rattle.terms.proofs.patterns.Patterns.matches.Goals as goal
 
 pub returns-then-is_none : goal.returns-then-is_none
 returns-then-is_none c =

@@ -1,5 +1,5 @@
 use Rattle.terms.proofs.MatchLists.{listing_begins, listing_asks, listing_miss, listing_on, listing_ends}
-use Rattle.terms.proofs.patterns.match_terms.Goals as goal
+use Rattle.terms.proofs.patterns.Patterns.match_terms.Goals as goal
 
 pub loop-id-init : goal.loop-id-init
 loop-id-init c = listing_begins _ _ _ _ _ _ _ _ c.requires

@@ -1,13 +1,13 @@
 use native.Mathlib.Omega.{arith}
 use Rattle.terms.proofs.Matches.{reads_in}
 use Rattle.terms.proofs.MatchTerms.{term_new, term_meets, cell_in, term_head, term_count, looping_begins, looping_asks, looping_miss, looping_on, looping_ends}
-use Rattle.terms.proofs.patterns.+match_term.Goals as goal
+use Rattle.terms.proofs.patterns.Patterns.+match_term.Goals as goal
 
-pub offset_bounds-patterns-at : goal.offset_bounds-patterns-at
-offset_bounds-patterns-at t c = omega (arith, reads_in _ _ _ c.requires.reads)
+pub offset_bounds-self-at : goal.offset_bounds-self-at
+offset_bounds-self-at t c = omega (arith, reads_in _ _ _ c.requires.reads)
 
-pub bounds-patterns-at : goal.bounds-patterns-at
-bounds-patterns-at t c = reads_in _ _ _ c.requires.reads
+pub bounds-self-at : goal.bounds-self-at
+bounds-self-at t c = reads_in _ _ _ c.requires.reads
 
 pub bounds-bound-v : goal.bounds-bound-v
 bounds-bound-v t c = cell_in _ _ _ _ _ _ _ _ c.requires c.if-head-ge-SYMBOLS.true

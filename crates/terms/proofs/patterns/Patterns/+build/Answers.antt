@@ -3,13 +3,13 @@ use Rattle.std.proofs.Common.{refl, ◌∙◌}
 use Rattle.std.proofs.lemmas.Result.{err_from_is_err_and}
 use Rattle.terms.proofs.Matches.{reads_in}
 use Rattle.terms.proofs.BuildTerms.{cell_there, build_unbound, build_bound, building_begins, building_asks, building_falls, building_stops, built_there, building_on, node_ready, building_done, building_full}
-use Rattle.terms.proofs.patterns.+build.Goals as goal
+use Rattle.terms.proofs.patterns.Patterns.+build.Goals as goal
 
-pub offset_bounds-patterns-at : goal.offset_bounds-patterns-at
-offset_bounds-patterns-at t c = omega (arith, reads_in _ _ _ c.requires.reads)
+pub offset_bounds-self-at : goal.offset_bounds-self-at
+offset_bounds-self-at t c = omega (arith, reads_in _ _ _ c.requires.reads)
 
-pub bounds-patterns-at : goal.bounds-patterns-at
-bounds-patterns-at t c = reads_in _ _ _ c.requires.reads
+pub bounds-self-at : goal.bounds-self-at
+bounds-self-at t c = reads_in _ _ _ c.requires.reads
 
 pub bounds-bound-head : goal.bounds-bound-head
 bounds-bound-head t c = cell_there _ _ _ _ _ _ _ c.requires c.if-head-ge-SYMBOLS.true
