@@ -4,6 +4,7 @@ use Rattle.rules.specs.Limits.{LENGTH, TERMS, FACTS}
 use Rattle.rules.specs.State.{State}
 use Rattle.rules.specs.Forms.{plus}
 use Rattle.questions.specs.declared.Question.{Question}
+use Rattle.questions.specs.declared.Text.TheVariants.{Proof}
 use Rattle.terms.specs.declared.store.Store.{Store}
 use Rattle.state.specs.declared.board.Given.{Given}
 use Rattle.state.specs.declared.board.Board.{Board}
@@ -12,7 +13,6 @@ use Rattle.counts.specs.Counted.{counts_of}
 use Rattle.counts.specs.Sum.{sum}
 use Rattle.induction.specs.Inducing.{IDS}
 use Rattle.forms.specs.Boards.{theory_of, tables_of}
-use Rattle.running.specs.declared.stopped.Text.TheVariants.{Proof}
 use Rattle.running.specs.declared.stopped.Stopped.{Stopped}
 use Rattle.running.specs.Course.{Underway, Over}
 use Rattle.running.specs.Between.{Few, StoredAs}

@@ -11,10 +11,10 @@ use Rattle.rules.specs.Text.{short, plain}
 use Rattle.rules.specs.Check.{first_failing, readable, fitting, check}
 use Rattle.kernel.specs.Parsed.{verdict}
 use Rattle.questions.specs.declared.Question.TheVariants as question
-use Rattle.running.specs.declared.stopped.Text.{Text}
-use Rattle.running.specs.declared.stopped.Text.TheVariants as text
+use Rattle.questions.specs.declared.Text.{Text}
+use Rattle.questions.specs.declared.Text.TheVariants as text
 use Rattle.running.specs.declared.stopped.Stopped.{Stopped}
-use Rattle.running.specs.Stopped.{text_number}
+use Rattle.questions.specs.Numbers.{text_number}
 use Rattle.beginning.specs.Asking.{left_in, Plain, LeftIn}
 
 -- The first that fails ---------------------------------------------------------------------------------------------------------------

@@ -20,11 +20,11 @@ use Rattle.kernel.specs.Layout.{verdict_formed, judged_done, judged_refused}
 use Rattle.kernel.specs.declared.tables.Counts.{Counts}
 use Rattle.std.specs.Prelude.{Result, Ok, Err}
 use Rattle.questions.specs.declared.Refused.{Refused}
+use Rattle.questions.specs.declared.Text.TheVariants as text
 use Rattle.terms.specs.declared.store.Mark.{Mark}
 use Rattle.state.specs.declared.sizes.Sizes.{Sizes}
 use Rattle.state.specs.Stands.{Texts, texts, Board, Stands, stands_proof}
 use Rattle.running.specs.declared.stopped.Stopped.{Stopped}
-use Rattle.running.specs.declared.stopped.Text.TheVariants as text
 use Rattle.running.specs.Course.{outcome_of}
 use Rattle.beginning.specs.Asking.{Plain, LeftIn}
 use Rattle.beginning.specs.Lengths.{theory_sizes}

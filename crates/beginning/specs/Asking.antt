@@ -5,11 +5,10 @@ use Rattle.rules.specs.Theory.{no_theory}
 use Rattle.rules.specs.State.{begin}
 use Rattle.rules.specs.Check.{refused_in, after_theory, check}
 use Rattle.questions.specs.declared.Question.{Question}
-use Rattle.questions.specs.Numbers.{number_of, detail_of}
+use Rattle.questions.specs.declared.Text.{Text}
+use Rattle.questions.specs.Numbers.{text_number, number_of, detail_of}
 use Rattle.kernel.specs.Parsed.{verdict}
-use Rattle.running.specs.declared.stopped.Text.{Text}
 use Rattle.running.specs.declared.stopped.Stopped.{Stopped}
-use Rattle.running.specs.Stopped.{text_number}
 
 -- the number of a text, 0 for none
 abbrev pub number_in : Option Text → ℕ

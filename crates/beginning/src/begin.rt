@@ -12,7 +12,8 @@ use crate::texts::{Texts, ask};
 use kernel::parse::parse_exact;
 use kernel::rule_readers::Rules;
 use kernel::tables::Tables;
-use running::stopped::{Stopped, Text};
+use questions::Text;
+use running::stopped::Stopped;
 use state::board::{Board, Given};
 use terms::store::Store;
 

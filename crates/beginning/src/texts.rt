@@ -3,8 +3,8 @@ ghost use Rattle.std.specs.Prelude.{◌≡◌, Bool, List, ℕ};
 ghost use Rattle.rules.specs.Check.{first_failing};
 ghost use Rattle.beginning.specs.Asking.{number_in, left_in, AskedAs};
 
-use questions::{Question, Refused};
-use running::stopped::{Stopped, Text};
+use questions::{Question, Refused, Text};
+use running::stopped::Stopped;
 use sexp::lex::{plain, short};
 
 // The three texts.

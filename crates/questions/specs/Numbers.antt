@@ -1,9 +1,16 @@
--- The numbers of the questions and of the rows of question 60, as the definition gives them. Assumes nothing.
+-- The numbers of the texts, of the questions and of the rows of question 60, as the definition gives them. Assumes nothing.
 use Rattle.std.specs.Prelude.{ℕ}
+use Rattle.questions.specs.declared.Text.{Text}
+use Rattle.questions.specs.declared.Text.TheVariants as text
 use Rattle.questions.specs.declared.Row.{Row}
 use Rattle.questions.specs.declared.Row.TheVariants as row
 use Rattle.questions.specs.declared.Question.{Question}
 use Rattle.questions.specs.declared.Question.TheVariants.{Tables, Length, Bytes, Brackets, Depth, Declaration, Declared, Signature, GoalForm, Variable, Spelling, Sorting, GoalName, NoGoal, ProofForm, Index, NextIndex, Defined, Earlier, Instance, Binding, Premises, Matching, Scope, Hypothesis, Cases, CaseVariables, CaseJudgment, CaseHypotheses, InductionVariable, CannotConclude, MissingCase, Captured, ResultName, ResultHypotheses, ResultJudgment, MissingResults, Room}
+
+abbrev pub text_number : Text → ℕ
+text_number text.Theory = 1
+text_number text.Goals = 2
+text_number text.Proof = 3
 
 abbrev pub row_number : Row → ℕ
 row_number row.Sorts = 1

@@ -3,8 +3,16 @@
 #![tactic(auto)]
 
 ghost use Rattle.std.specs.Prelude.{◌≡◌};
-ghost use Rattle.questions.specs.Numbers.{row_number, number_of, detail_of};
+ghost use Rattle.questions.specs.Numbers.{row_number, text_number, number_of, detail_of};
 ghost use Rattle.questions.specs.declared.Question.TheVariants.{Room};
+
+// The texts of a check.
+#[derive(Clone, Copy, Debug, PartialEq, Eq)]
+pub enum Text {
+    Theory,
+    Goals,
+    Proof,
+}
 
 // What has no room: the rows of question 60.
 #[derive(Clone, Copy, Debug, PartialEq, Eq)]
@@ -89,6 +97,19 @@ pub enum Question {
 pub struct Refused {
     pub question: Question,
     pub form: usize,
+}
+
+impl Text {
+    // Its number, which programs in other languages read; theirs is 0 for none.
+    pub fn number(self) -> usize
+        ensures { result ≡ text_number self }
+    {
+        match self {
+            Text::Theory => 1,
+            Text::Goals => 2,
+            Text::Proof => 3,
+        }
+    }
 }
 
 impl Row {

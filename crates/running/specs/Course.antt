@@ -7,13 +7,12 @@ use Rattle.rules.specs.State.{State}
 use Rattle.rules.specs.Forms.{take_form}
 use Rattle.rules.specs.Check.{Outcome, refused_in, missing, ended, after_proof, check}
 use Rattle.rules.proofs.Laws.Bounded.{BoundedCheck}
-use Rattle.questions.specs.Numbers.{number_of, detail_of}
+use Rattle.questions.specs.Numbers.{text_number, number_of, detail_of}
 use Rattle.kernel.specs.Parsed.{TheoryLists}
 use Rattle.terms.specs.declared.store.Mark.{Mark}
 use Rattle.state.specs.declared.sizes.Sizes.{Sizes}
 use Rattle.state.specs.Stands.{Texts, texts, Board, Stands}
 use Rattle.running.specs.declared.stopped.Stopped.{Stopped}
-use Rattle.running.specs.Stopped.{text_number}
 
 -- a form may be left, from place p on, behind k forms
 pub record Underway (theory goals proof : List ℕ) (T : TheoryLists) (B : Board) (n : Sizes) (m : Mark) (p k : ℕ) (S : State) : Type 0 where

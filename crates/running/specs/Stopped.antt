@@ -1,15 +1,7 @@
 -- Where a check stops, in numbers. Assumes nothing.
-use Rattle.std.specs.Prelude.{ℕ}
-use Rattle.questions.specs.Numbers.{number_of, detail_of}
-use Rattle.running.specs.declared.stopped.Text.{Text}
-use Rattle.running.specs.declared.stopped.Text.TheVariants as text
+use Rattle.questions.specs.Numbers.{text_number, number_of, detail_of}
 use Rattle.running.specs.declared.stopped.Stopped.{Stopped}
 use Rattle.running.specs.declared.finish.Refusal.{Refusal}
-
-abbrev pub text_number : Text → ℕ
-text_number text.Theory = 1
-text_number text.Goals = 2
-text_number text.Proof = 3
 
 -- the refusal in numbers
 abbrev pub refusal_of : Stopped → Refusal

@@ -9,10 +9,10 @@ ghost use Rattle.running.specs.Stopped.{refusal_of};
 ghost use Rattle.running.specs.Lent.{board_of};
 ghost use Rattle.running.specs.Finished.{unproved, GoalRows, OpenRowsIn, FinishGiven, Finishes, ListedFor};
 
-use crate::stopped::{Stopped, Text};
+use crate::stopped::Stopped;
 use cells::clear;
 use counts::Counts;
-use questions::{Question, Refused};
+use questions::{Question, Refused, Text};
 use state::board::Board;
 use state::goals::{goal_judgment, is_taken};
 use terms::store::{Store, Terms};

@@ -24,9 +24,9 @@ use beginning::texts::Texts;
 use counts::{Counts, add, no_counts};
 use facts::{Fact, append_if, zero_behind};
 use kernel::tables::{Counts as Held, Tables};
-use questions::{Question, Refused};
+use questions::{Question, Refused, Text};
 use running::finish::{Refusal, Report, finish};
-use running::stopped::{Stopped, Text};
+use running::stopped::Stopped;
 use state::board::{Board, Given};
 use terms::store::{Mark, Store};
 
