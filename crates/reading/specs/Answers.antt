@@ -1,6 +1,6 @@
 -- What the functions of this crate answer, beside what the definition answers: K. Each relation is said over plain tables and marks (By), and of the
 -- store before and afterwards (As). Assumes nothing.
-use Rattle.std.specs.Prelude.{◌≡◌, Bool, true, false, List, ℕ, ◌+◌, ◌<◌, eqb, length, take, Some as some, None as nothing, Option, Result, Ok, Err}
+use Rattle.std.specs.Prelude.{◌≡◌, Bool, true, List, ℕ, ◌+◌, ◌<◌, eqb, length, take, Some as some, None as nothing, Option, Result, Ok, Err}
 use Rattle.rules.specs.Limits.{VARIABLES}
 use Rattle.rules.specs.Out.{Out, ok, refuse}
 use Rattle.rules.specs.Find.{has}

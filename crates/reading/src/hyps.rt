@@ -8,93 +8,81 @@ ghost use Rattle.reading.specs.Answers.{HypsAs};
 ghost use Rattle.reading.specs.Tested.{Asks, Tests};
 
 use crate::names::index;
+use crate::reader::Reader;
 use cells::clear;
 use questions::Question;
 use sexp::items;
 use sexp::items::Item;
 use state::facts::{is_assumed, is_fact, is_plain};
-use state::sizes::Sizes;
 use terms::sets::insert;
 
-// The facts whose numbers the items spell come into the set, which is empty before: each passes the test.
-fn hyp_each<F: Fn(&[u32], usize) -> bool>(
-    text: &[u8],
-    facts: &[u32],
-    n: Sizes,
-    cells: &[u32],
-    passes: F,
-    set: &mut [u64],
-) -> Result<(), Question>
-    requires items { FactsItems text.now facts.now n cells.now × (set.old ≡ replicate FACTWORDS 0) }
-    requires callable { Asks F.Fn passes facts.now }
-    ensures { (g : FactsItems text.now facts.now n cells.now) (p : Fact → Bool) → Tests F.Fn passes facts.now g.S p →
-        HypsAs p g.S (list g.xs) set.new set.new result }
-{
-    for item in items::all(cells) {
-        let i = index(text, item).ok_or(Question::Earlier)?;
-        if !is_fact(n, i) {
+impl Reader<'_> {
+    // The facts whose numbers the items spell come into the set, which is empty before: each passes the test.
+    fn hyp_each<F: Fn(&[u32], usize) -> bool>(
+        &self,
+        facts: &[u32],
+        cells: &[u32],
+        passes: F,
+        set: &mut [u64],
+    ) -> Result<(), Question>
+        requires items { FactsItems self.now.text.now facts.now self.now.n cells.now × (set.old ≡ replicate FACTWORDS 0) }
+        requires callable { Asks F.Fn passes facts.now }
+        ensures { (g : FactsItems self.now.text.now facts.now self.now.n cells.now) (p : Fact → Bool) → Tests F.Fn passes facts.now g.S p →
+            HypsAs p g.S (list g.xs) set.new set.new result }
+    {
+        for item in items::all(cells) {
+            let i = index(self.text, item).ok_or(Question::Earlier)?;
+            if !is_fact(self.n, i) {
+                return Err(Question::Earlier);
+            }
+            if !passes(facts, i) {
+                return Err(Question::Hypothesis);
+            }
+            insert(set, i);
+        }
+        Ok(())
+    }
+
+    // The same of the facts that the first item lists; where it is refused, the set is empty again.
+    fn hyp_list<F: Fn(&[u32], usize) -> bool>(
+        &self,
+        facts: &[u32],
+        cells: &[u32],
+        passes: F,
+        set: &mut [u64],
+    ) -> Result<(), Question>
+        requires item { FactsItem self.now.text.now facts.now self.now.n cells.now × (set.old ≡ replicate FACTWORDS 0) }
+        requires callable { Asks F.Fn passes facts.now }
+        ensures { (g : FactsItem self.now.text.now facts.now self.now.n cells.now) (p : Fact → Bool) → Tests F.Fn passes facts.now g.S p →
+            HypsAs p g.S g.x set.old set.new result }
+    {
+        let Item::List(a, b) = items::item_at(cells, 0) else {
             return Err(Question::Earlier);
-        }
-        if !passes(facts, i) {
-            return Err(Question::Hypothesis);
-        }
-        insert(set, i);
-    }
-    Ok(())
-}
-
-// The same of the facts that the first item lists; where it is refused, the set is empty again.
-fn hyp_list<F: Fn(&[u32], usize) -> bool>(
-    text: &[u8],
-    facts: &[u32],
-    n: Sizes,
-    cells: &[u32],
-    passes: F,
-    set: &mut [u64],
-) -> Result<(), Question>
-    requires item { FactsItem text.now facts.now n cells.now × (set.old ≡ replicate FACTWORDS 0) }
-    requires callable { Asks F.Fn passes facts.now }
-    ensures { (g : FactsItem text.now facts.now n cells.now) (p : Fact → Bool) → Tests F.Fn passes facts.now g.S p →
-        HypsAs p g.S g.x set.old set.new result }
-{
-    let Item::List(a, b) = items::item_at(cells, 0) else {
-        return Err(Question::Earlier);
-    };
-    match hyp_each(text, facts, n, &cells[a..b], passes, set) {
-        Ok(()) => Ok(()),
-        Err(question) => {
-            clear(set);
-            Err(question)
+        };
+        match self.hyp_each(facts, &cells[a..b], passes, set) {
+            Ok(()) => Ok(()),
+            Err(question) => {
+                clear(set);
+                Err(question)
+            }
         }
     }
-}
 
-// Plain hypotheses.
-pub fn plain_hyps(
-    text: &[u8],
-    facts: &[u32],
-    n: Sizes,
-    cells: &[u32],
-    set: &mut [u64],
-) -> Result<(), Question>
-    requires { FactsItem text.now facts.now n cells.now × (set.old ≡ replicate FACTWORDS 0) }
-    ensures { (g : FactsItem text.now facts.now n cells.now) →
-        HypsAs is_plain g.S g.x set.old set.new result }
-{
-    hyp_list(text, facts, n, cells, is_plain, set)
-}
+    // Plain hypotheses.
+    pub fn plain_hyps(&self, facts: &[u32], cells: &[u32], set: &mut [u64]) -> Result<(), Question>
+        requires { FactsItem self.now.text.now facts.now self.now.n cells.now × (set.old ≡ replicate FACTWORDS 0) }
+        ensures { (g : FactsItem self.now.text.now facts.now self.now.n cells.now) →
+            HypsAs is_plain g.S g.x set.old set.new result }
+    {
+        self.hyp_list(facts, cells, is_plain, set)
+    }
 
-// Any hypotheses.
-pub fn any_hyps(
-    text: &[u8],
-    facts: &[u32],
-    n: Sizes,
-    cells: &[u32],
-    set: &mut [u64],
-) -> Result<(), Question>
-    requires { FactsItem text.now facts.now n cells.now × (set.old ≡ replicate FACTWORDS 0) }
-    ensures { (g : FactsItem text.now facts.now n cells.now) →
-        HypsAs (λ f. f.assumed) g.S g.x set.old set.new result }
-{
-    hyp_list(text, facts, n, cells, is_assumed, set)
+    // Any hypotheses.
+    pub fn any_hyps(&self, facts: &[u32], cells: &[u32], set: &mut [u64]) -> Result<(), Question>
+        requires { FactsItem self.now.text.now facts.now self.now.n cells.now × (set.old ≡ replicate FACTWORDS 0) }
+        ensures { (g : FactsItem self.now.text.now facts.now self.now.n cells.now) →
+            HypsAs (λ f. f.assumed) g.S g.x set.old set.new result }
+    {
+        self.hyp_list(facts, cells, is_assumed, set)
+    }
 }

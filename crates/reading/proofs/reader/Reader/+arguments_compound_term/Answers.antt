@@ -3,7 +3,7 @@ use native.Mathlib.Omega.{arith}
 use Rattle.std.proofs.lemmas.Result.{err_from_is_err_and}
 use Rattle.terms.specs.On.{pure_stopped}
 use Rattle.sexp.specs.Each.{here, over}
-use Rattle.reading.proofs.TermArguments.{known_symbol, symbol_small, going_begins, going_inputs, going_high, going_item, going_past, going_stops, going_put, going_on, going_ends, part_most}
+use Rattle.reading.proofs.TermArguments.{known_symbol, symbol_small, going_begins, going_inputs, going_high, going_item, going_stops, going_put, going_on, going_ends, part_most}
 use Rattle.reading.proofs.TermHeads.{rest_fewer}
 use Rattle.reading.proofs.TermBehind.{opens, rest_items, behind_stops, behind_misfits, behind_narrow, behind_length, behind_node, behind_typed}
 use Rattle.reading.proofs.TermItems.{item_there, atom_given, term_atomic, item_list, list_items, term_compounds}

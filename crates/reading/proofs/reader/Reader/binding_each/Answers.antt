@@ -1,11 +1,8 @@
-use mathlib.Core.Path.{refl, sym, ap, ◌∙◌}
-use Prim.Native.Nat.{ℕ}
+use mathlib.Core.Path.{refl, ◌∙◌}
 use native.Mathlib.Omega.{arith}
-use lib.ListN.{length, length-replicate}
-use Rattle.rules.specs.Limits.{VARIABLES}
 use Rattle.kernel.proofs.Handed.{handed}
 use Rattle.sexp.specs.Each.{here, over}
-use Rattle.reading.proofs.Binds.{binds_start, left_given, left_refused, left_small, left_fits, left_twice, left_again, left_less, left_done}
+use Rattle.reading.proofs.Binds.{binds_start, left_given, left_refused, left_small, left_fits, left_twice, left_again, left_done}
 use Rattle.reading.proofs.reader.Reader.binding_each.Goals as goal
 
 pub loop-item-init : goal.loop-item-init

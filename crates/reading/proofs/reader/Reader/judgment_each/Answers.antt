@@ -2,8 +2,7 @@ use mathlib.Core.Path.{refl, ◌∙◌}
 use native.Mathlib.Omega.{arith}
 use Rattle.kernel.proofs.Handed.{handed}
 use Rattle.sexp.specs.Each.{here, over}
-use Rattle.reading.proofs.Judgments.{judging_start, judging_here, judging_item, judging_ok, judging_err, judging_small, judging_more, judging_over}
-use Rattle.reading.specs.Laws.Walks.{go_on}
+use Rattle.reading.proofs.Judgments.{judging_start, judging_item, judging_ok, judging_err, judging_small, judging_more, judging_over}
 use Rattle.reading.proofs.reader.Reader.judgment_each.Goals as goal
 
 pub loop-item-init : goal.loop-item-init

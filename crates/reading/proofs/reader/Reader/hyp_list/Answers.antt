@@ -2,7 +2,7 @@ use mathlib.Core.Path.{refl}
 use native.Mathlib.Omega.{arith}
 use Rattle.reading.specs.Laws.Walks.{first_some, first_atom, first_list}
 use Rattle.reading.proofs.Hypotheses.{atom_refuses, facts_inside, hyps_ok, hyps_err}
-use Rattle.reading.proofs.hyps.hyp_list.Goals as goal
+use Rattle.reading.proofs.reader.Reader.hyp_list.Goals as goal
 
 pub item_at-requires : goal.item_at-requires
 item_at-requires o c = first_some c.requires.item.0.holds

@@ -6,13 +6,12 @@ use Rattle.sexp.specs.Each.{here, over}
 use Rattle.sexp.specs.WalkLaws.{walk_start}
 use Rattle.reading.proofs.Hypotheses.{hyping_start, walking_first, walking_on, hyping_none, hyping_late, hyping_fails, hyping_more, hyping_over, facts_long, facts_few, facts_many, stands}
 use Rattle.reading.proofs.Filling.{zeros_long}
-use Rattle.reading.specs.Laws.Walks.{go_on}
 use borrow.Author.Tests.{not-true, not-false}
 use mathlib.Core.Bool.{not}
 use Rattle.std.specs.Prelude.{Err}
 use Rattle.kernel.proofs.Handed.{handed}
 use Rattle.reading.proofs.Missing.{there, absent, question_is}
-use Rattle.reading.proofs.hyps.hyp_each.Goals as goal
+use Rattle.reading.proofs.reader.Reader.hyp_each.Goals as goal
 
 pub loop-item-init : goal.loop-item-init
 loop-item-init o c = rw (c.into_iter-item-iterator.ensures.into_iter_gives, c.all-item-items.ensures.0, c.all-item-items.ensures.1) record { cells = refl; walking = record { left = _; walk = walk_start c.requires.items.0.holds }; wide = zeros_long FACTWORDS c.requires.items.1; hyping = λ g p s. hyping_start p g.S g.holds c.requires.items.1 }
@@ -32,13 +31,13 @@ is_fact-requires o c = tt
 pub returns-then-not-is_fact : goal.returns-then-not-is_fact
 returns-then-not-is_fact o c = λ g p s. (
   hyping_late (c.loop-item.invariant.hyping g p s) (here c.loop-item.invariant.cells c.in-Some.ensures.steps).inside (rw (here c.loop-item.invariant.cells c.in-Some.ensures.steps).is at c.index.ensures) (there _ _ c.ok_or.ensures.ok_part c.in_ok-i.was)
-      (omega (arith, facts_many g, is_late c.in_ok-i.i c.args.n.facts c.is_fact.result c.is_fact.ensures (ap not c.if-not-is_fact.true))),
+      (omega (arith, facts_many g, is_late c.in_ok-i.i c.args.self.now.n.facts c.is_fact.result c.is_fact.ensures (ap not c.if-not-is_fact.true))),
   (refl, refl),
 )
 
 pub passes-requires : goal.passes-requires
 passes-requires o c = c.requires.callable.may _ _ refl (facts_long c.requires.items.0)
-    (omega (arith, facts_few c.requires.items.0, not_late c.in_ok-i.i c.args.n.facts c.is_fact.result c.is_fact.ensures (ap not c.if-not-is_fact.false)))
+    (omega (arith, facts_few c.requires.items.0, not_late c.in_ok-i.i c.args.self.now.n.facts c.is_fact.result c.is_fact.ensures (ap not c.if-not-is_fact.false)))
 
 pub returns-then-not-passes : goal.returns-then-not-passes
 returns-then-not-passes o c = λ g p s. let k = stands g c.in_ok-i.i (not_late _ _ _ c.is_fact.ensures (ap not c.if-not-is_fact.false)) in (
@@ -48,7 +47,7 @@ returns-then-not-passes o c = λ g p s. let k = stands g c.in_ok-i.i (not_late _
 )
 
 pub insert-requires : goal.insert-requires
-insert-requires o c = let early = not_late c.in_ok-i.i c.args.n.facts c.is_fact.result c.is_fact.ensures (ap not c.if-not-is_fact.false) in omega
+insert-requires o c = let early = not_late c.in_ok-i.i c.args.self.now.n.facts c.is_fact.result c.is_fact.ensures (ap not c.if-not-is_fact.false) in omega
     (arith, early, facts_few c.requires.items.0, c.loop-item.invariant.wide)
 
 pub loop-item-preserved : goal.loop-item-preserved
