@@ -1,9 +1,13 @@
 -- Counts that are added field by field, and that the sums fit in a word. Assumes nothing.
-use Rattle.std.specs.Prelude.{◌<◌, ◌+◌, ◌^◌}
+use Rattle.std.specs.Prelude.{◌≡◌, refl, ◌<◌, ◌+◌, ◌^◌}
 use Rattle.counts.specs.declared.Counts.{Counts}
+use Rattle.counts.specs.declared.TheConstants.Counts.{NONE}
 
 abbrev pub none : Counts
 none = record { hypotheses = 0; inductions = 0; inversions = 0; instances = 0 }
+
+pub none_is : NONE ≡ none
+none_is = refl
 
 abbrev pub sum : Counts → Counts → Counts
 sum c d = record {

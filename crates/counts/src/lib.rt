@@ -2,7 +2,7 @@
 #![tactic(auto)]
 
 ghost use Rattle.std.specs.Prelude.{◌≡◌};
-ghost use Rattle.counts.specs.Sum.{sum, Fits, none};
+ghost use Rattle.counts.specs.Sum.{sum, Fits};
 
 // Hypotheses stated, inductions, inversions, and instances among the references of steps.
 #[derive(Clone, Copy, Debug, PartialEq, Eq)]
@@ -13,16 +13,14 @@ pub struct Counts {
     pub instances: usize,
 }
 
-// Nothing is counted.
-pub fn no_counts() -> Counts
-    ensures { result ≡ none }
-{
-    Counts {
+impl Counts {
+    // Nothing is counted.
+    pub const NONE: Counts = Counts {
         hypotheses: 0,
         inductions: 0,
         inversions: 0,
         instances: 0,
-    }
+    };
 }
 
 // Both together.

@@ -4,7 +4,11 @@ use Rattle.std.proofs.Common.{sym, ap, ◌∙◌, arith, add-one, append_assoc, 
 use Rattle.std.proofs.lemmas.List.{length-replicate}
 use Rattle.std.proofs.Math.Seq.{append_snoc}
 use Rattle.facts.specs.declared.Fact.{Fact}
+use Rattle.facts.specs.declared.TheConstants.Fact.{BLANK}
 use Rattle.facts.specs.Table.{blank, appended, zeroed}
+
+pub blank_is : BLANK ≡ blank
+blank_is = refl
 
 pub length_appended : (stored : Option Fact) (ys : List Fact) (i : ℕ) → length (appended stored ys i) ≡ length ys
 length_appended (some f) ys i = length-set ys i f

@@ -20,11 +20,9 @@ pub struct Fact {
     pub footing: [u64; 4],
 }
 
-// The record of zeros.
-pub fn blank_fact() -> Fact
-    ensures { result ≡ blank }
-{
-    Fact {
+impl Fact {
+    // The record of zeros.
+    pub const BLANK: Fact = Fact {
         judgment: 0,
         assumed: 0,
         first: 0,
@@ -32,7 +30,7 @@ pub fn blank_fact() -> Fact
         premises: 0,
         general: 0,
         footing: [0; 4],
-    }
+    };
 }
 
 // Whether it is a hypothesis.
@@ -81,5 +79,5 @@ pub fn zero_behind(facts: &mut [Fact], from: usize, to: usize)
     requires { (from ≤ to) × (to ≤ length facts.old) }
     ensures { facts.new ≡ zeroed facts.old from to }
 {
-    facts[from..to].fill(blank_fact());
+    facts[from..to].fill(Fact::BLANK);
 }

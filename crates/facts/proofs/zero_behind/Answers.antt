@@ -14,7 +14,7 @@ returns c =
     let room : length (take n (drop c.args.from c.args.facts.now)) ≡ n =
     length-take-le n (drop c.args.from c.args.facts.now) (omega (arith, length-drop c.args.from c.args.facts.now)) in
     let filled : c.fill.new.self ≡ blanks =
-    c.fill.ensures.after (λ y h. h) ∙ ap (λ (k : ℕ). replicate k c.blank_fact.result) room ∙ ap (λ (f : Fact). replicate n f) c.blank_fact.ensures in
+    c.fill.ensures.after (λ y h. h) ∙ ap (λ (k : ℕ). replicate k blank) room in
     let behind : c.args.from + n ≡ c.args.to = omega arith in
     let size : n ≡ length blanks = sym (length-replicate n blank) in
     put_mid-paste c.args.from n c.args.facts.now c.fill.new.self blanks n filled (omega arith) size
