@@ -17,7 +17,7 @@ use Rattle.rules.specs.Laws.PatternSteps.{worded}
 use Rattle.sexp.specs.Items.{Holds}
 use Rattle.sexp.specs.NameRows.{NameIn}
 use Rattle.kernel.specs.Held.{Front, SymbolsHeld, SomeSymbolsHeld}
-use Rattle.kernel.specs.declared.patterns.SymbolTable.{SymbolTable}
+use Rattle.kernel.specs.declared.names.SymbolTable.{SymbolTable}
 use Rattle.kernel.specs.declared.patterns.RuleReader.{RuleReader}
 
 -- The reader ---------------------------------------------------------------------------------------------------------------------

@@ -1,13 +1,25 @@
 -- The tables of a theory as they are lent, and what a declaration leaves in them. Assumes nothing.
 use Rattle.std.specs.Prelude.{◌≡◌, ℕ, List, Result}
+use Rattle.std.specs.Borrow.{Bor}
 use Rattle.questions.specs.declared.Question.{Question}
 use Rattle.rules.specs.Out.{Out}
 use Rattle.rules.specs.Theory.{Theory}
+use Rattle.kernel.specs.declared.names.SymbolTable.{SymbolTable}
 use Rattle.kernel.specs.declared.tables.Tables.{Tables}
 use Rattle.kernel.specs.Parsed.{TheoryLists, theory_lists, TheoryHeld, DeclaredAs}
 
 abbrev pub lists_of : Tables → TheoryLists
 lists_of t = theory_lists t.sorts.now t.symbols.now t.inputs.now t.rules.now t.vars.now t.patterns.now
+
+-- the symbols of a theory as they are read, with names in a text
+abbrev pub known_of : Bor (List ℕ) → Tables → SymbolTable
+known_of text t =
+    record {
+      text = text;
+      rows = record { ref_ptr = t.symbols.ref_ptr; now = t.symbols.now };
+      inputs = record { ref_ptr = t.inputs.ref_ptr; now = t.inputs.now };
+      count = t.held.symbols;
+    }
 
 -- the references are those that were lent
 abbrev pub SameTables : Tables → Tables → Type 0

@@ -3,7 +3,7 @@
 
 pub mod atoms;
 mod declare;
-mod names;
+pub mod names;
 pub mod parse;
 mod patterns;
 mod premises;

@@ -1,8 +1,10 @@
 // Looking symbols up: the first predicate, or the first constructor, whose name has given bytes.
-ghost use Rattle.std.specs.Prelude.{◌≡◌, List};
+ghost use Rattle.std.specs.Prelude.{◌≡◌, ℕ, List};
 ghost use Rattle.rules.specs.Text.{same};
 ghost use Rattle.rules.specs.Find.{first};
-ghost use Rattle.rules.specs.Theory.{Symbol};
+ghost use Rattle.rules.specs.Theory.{Theory, Symbol, constructor_named, predicate_named};
+ghost use Rattle.kernel.specs.Held.{SymbolsHeld};
+ghost use Rattle.kernel.specs.Readers.{NamedSymbols};
 ghost use Rattle.kernel.specs.Named.{SymbolAt, SomeSymbol, SymbolRows, SomeSymbols, kind_of, called};
 
 use sexp::names::same;
@@ -25,37 +27,60 @@ impl Kind {
     }
 }
 
-// Whether the symbol of a row is of the kind and has these bytes for a name.
-fn is_symbol(text: &[u8], symbols: &[u32], row: usize, kind: Kind, name: &[u8]) -> bool
-    requires { SomeSymbol text.now symbols.now row }
-    ensures { (s : Symbol) → SymbolAt text.now symbols.now row s → result ≡ called kind name.now s }
-{
-    let first = 4 * row;
-    if kind.has(symbols[first]) {
-        let at = first + 2;
-        let start = symbols[at] as usize;
-        let end = symbols[at + 1] as usize;
-        return same(&text[start..end], name);
-    }
-    false
+// The symbols that are declared, and the text that spells their names.
+#[derive(Clone, Copy)]
+pub struct SymbolTable<'a> {
+    pub text: &'a [u8],
+    pub rows: &'a [u32],
+    pub inputs: &'a [u32],
+    pub count: usize,
 }
 
-// The number of the first symbol of the kind whose name has these bytes.
-pub fn symbol_named(
-    text: &[u8],
-    symbols: &[u32],
-    count: usize,
-    kind: Kind,
-    name: &[u8],
-) -> Option<usize>
-    requires { SomeSymbols text.now symbols.now count }
-    ensures { (ss : List Symbol) → SymbolRows text.now symbols.now count ss →
-        result ≡ first (called kind name.now) ss 0 }
-{
-    for i in 0..count {
-        if is_symbol(text, symbols, i, kind, name) {
-            return Some(i);
+impl SymbolTable<'_> {
+    // Whether the symbol of a row is of the kind and has these bytes for a name.
+    fn is_symbol(&self, row: usize, kind: Kind, name: &[u8]) -> bool
+        requires { SomeSymbol self.now.text.now self.now.rows.now row }
+        ensures { (s : Symbol) → SymbolAt self.now.text.now self.now.rows.now row s → result ≡ called kind name.now s }
+    {
+        let first = 4 * row;
+        if kind.has(self.rows[first]) {
+            let at = first + 2;
+            let start = self.rows[at] as usize;
+            let end = self.rows[at + 1] as usize;
+            return same(&self.text[start..end], name);
         }
+        false
     }
-    None
+
+    // The number of the first symbol of the kind whose name has these bytes.
+    pub fn named(&self, kind: Kind, name: &[u8]) -> Option<usize>
+        requires { SomeSymbols self.now.text.now self.now.rows.now self.now.count }
+        ensures { (ss : List Symbol) → SymbolRows self.now.text.now self.now.rows.now self.now.count ss →
+            result ≡ first (called kind name.now) ss 0 }
+    {
+        for i in 0..self.count {
+            if self.is_symbol(i, kind, name) {
+                return Some(i);
+            }
+        }
+        None
+    }
+
+    // The constructor with these bytes for a name.
+    pub fn constructor_named(&self, name: &[u8]) -> Option<usize>
+        requires { NamedSymbols self.now.text.now self.now.rows.now self.now.count }
+        ensures { (T : Theory) (inputs : List ℕ) → SymbolsHeld self.now.text.now self.now.rows.now inputs self.now.count T.symbols →
+            result ≡ constructor_named T name.now }
+    {
+        self.named(Kind::Constructor, name)
+    }
+
+    // The predicate with these bytes for a name.
+    pub fn predicate_named(&self, name: &[u8]) -> Option<usize>
+        requires { NamedSymbols self.now.text.now self.now.rows.now self.now.count }
+        ensures { (T : Theory) (inputs : List ℕ) → SymbolsHeld self.now.text.now self.now.rows.now inputs self.now.count T.symbols →
+            result ≡ predicate_named T name.now }
+    {
+        self.named(Kind::Predicate, name)
+    }
 }

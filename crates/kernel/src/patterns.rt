@@ -13,20 +13,11 @@ ghost use Rattle.sexp.specs.AtomText.{Spans};
 ghost use Rattle.sexp.specs.NameRows.{NameRows, SomeNames};
 
 use crate::atoms::{marked, put_name};
-use crate::names::{Kind, symbol_named};
+use crate::names::{Kind, SymbolTable};
 use crate::readers::same_sort;
 use questions::{Question, Row};
 use sexp::lex;
 use sexp::names::named;
-
-// The symbols that are declared, and the text that spells their names.
-#[derive(Clone, Copy)]
-pub struct SymbolTable<'a> {
-    pub text: &'a [u8],
-    pub rows: &'a [u32],
-    pub inputs: &'a [u32],
-    pub count: usize,
-}
 
 // A rule as far as it is read: the variables that were met, and its words behind those of the rules before.
 #[derive(Drop)]
@@ -126,8 +117,7 @@ impl RuleReader<'_, '_> {
         let known = self.known;
         let end = lex::atom_end(known.text, start);
         let name = &known.text[start..end];
-        let Some(c) = symbol_named(known.text, known.rows, known.count, Kind::Constructor, name)
-        else {
+        let Some(c) = known.named(Kind::Constructor, name) else {
             return Err(Question::Declared);
         };
         let at = 4 * c;

@@ -1,12 +1,11 @@
 // Reading the tables of sorts and symbols: whether two sorts are the same, a symbol's signature by its number, numbers by name, and the
 // constructors of a sort one after the other, or how many.
 ghost use Rattle.std.specs.Prelude.{◌≡◌, ℕ, ◌<◌, List, eqb, length, get_or};
-ghost use Rattle.rules.specs.Theory.{Theory, inputs as inputs_of, output as output_of, constructors as constructors_of, sort_named, constructor_named, predicate_named};
+ghost use Rattle.rules.specs.Theory.{Theory, inputs as inputs_of, output as output_of, constructors as constructors_of, sort_named};
 ghost use Rattle.kernel.specs.Held.{SortsHeld, SomeSorts, SymbolsHeld};
-ghost use Rattle.kernel.specs.Readers.{KnownSymbol, KnownInput, NamedSymbols, CountedSymbols};
+ghost use Rattle.kernel.specs.Readers.{KnownSymbol, KnownInput, CountedSymbols};
 ghost use Rattle.kernel.specs.Listing.{next_constructor};
 
-use crate::names::{Kind, symbol_named};
 use sexp::names::named;
 
 // Whether two sorts are the same.
@@ -50,24 +49,6 @@ pub fn sort_named(text: &[u8], sorts: &[u32], count: usize, name: &[u8]) -> Opti
 {
     let i = named(text, sorts, 2, 0, count, name)?;
     Some(i + 1)
-}
-
-// The constructor with these bytes for a name.
-pub fn constructor_named(text: &[u8], symbols: &[u32], count: usize, name: &[u8]) -> Option<usize>
-    requires { NamedSymbols text.now symbols.now count }
-    ensures { (T : Theory) (inputs : List ℕ) → SymbolsHeld text.now symbols.now inputs count T.symbols →
-        result ≡ constructor_named T name.now }
-{
-    symbol_named(text, symbols, count, Kind::Constructor, name)
-}
-
-// The predicate with these bytes for a name.
-pub fn predicate_named(text: &[u8], symbols: &[u32], count: usize, name: &[u8]) -> Option<usize>
-    requires { NamedSymbols text.now symbols.now count }
-    ensures { (T : Theory) (inputs : List ℕ) → SymbolsHeld text.now symbols.now inputs count T.symbols →
-        result ≡ predicate_named T name.now }
-{
-    symbol_named(text, symbols, count, Kind::Predicate, name)
 }
 
 // The first constructor of that sort whose number is `from` or greater.

@@ -9,7 +9,8 @@ ghost use Rattle.kernel.specs.Reading.{SameTables, Knows, ReadTo, ReadSoFar, Par
 ghost use Rattle.kernel.specs.HeldRules.{schema_cells, Beginning, BeginningAt, SchemaRead, SomeForm, RulesHeld, SomeRules, RuleFits, RuleIs, RulePut, RuleAdded};
 
 use crate::atoms::put_name;
-use crate::patterns::{RuleReader, SymbolTable};
+use crate::names::SymbolTable;
+use crate::patterns::RuleReader;
 use crate::signatures::put_row;
 use crate::symbols::proper_at;
 use crate::tables::Counts;

@@ -12,7 +12,7 @@ ghost use Rattle.kernel.specs.Held.{Form, SortsHeld, SomeSorts, Gathering, Argum
 ghost use Rattle.kernel.specs.Tables.{SameTables, Holding, HoldingSome, Leaving};
 
 use crate::atoms::put_name;
-use crate::names::{Kind, symbol_named};
+use crate::names::Kind;
 use crate::symbols::{proper_at, sort};
 use crate::tables::Tables;
 use cells::Span;
@@ -115,9 +115,9 @@ pub fn add_ctor(text: &[u8], form: &[u32], tables: &mut Tables<'_>) -> Result<()
     let arity = arguments_at(text, form, sorts, held.sorts, &mut row)?;
     let result = items::nth(form, 3);
     let output = sort(text, result, sorts, held.sorts)?;
-    let symbols = &mut *tables.symbols;
+    let known = tables.known(text);
     let bytes = &text[name.from..name.end];
-    let None = symbol_named(text, symbols, held.symbols, Kind::Constructor, bytes) else {
+    let None = known.named(Kind::Constructor, bytes) else {
         return Err(Question::Declared);
     };
     store(tables, output, arity, name, &row)
@@ -136,9 +136,9 @@ pub fn add_pred(text: &[u8], form: &[u32], tables: &mut Tables<'_>) -> Result<()
     let held = tables.held;
     let sorts = &mut *tables.sorts;
     let arity = arguments_at(text, form, sorts, held.sorts, &mut row)?;
-    let symbols = &mut *tables.symbols;
+    let known = tables.known(text);
     let bytes = &text[name.from..name.end];
-    let None = symbol_named(text, symbols, held.symbols, Kind::Predicate, bytes) else {
+    let None = known.named(Kind::Predicate, bytes) else {
         return Err(Question::Declared);
     };
     store(tables, 0, arity, name, &row)

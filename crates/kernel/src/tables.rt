@@ -1,7 +1,9 @@
 // The tables of a theory, lent together with what is used of them.
 ghost use Rattle.std.specs.Prelude.{◌≡◌, ◌≤◌, length};
 ghost use Rattle.kernel.specs.Parsed.{CountsFit, zero_from, wiped};
-ghost use Rattle.kernel.specs.Tables.{lists_of, SameTables};
+ghost use Rattle.kernel.specs.Tables.{lists_of, known_of, SameTables};
+
+use crate::names::SymbolTable;
 
 // What is used: sorts, symbols, rules, and words of the rules' patterns.
 #[derive(Clone, Copy, Debug, PartialEq, Eq)]
@@ -42,6 +44,18 @@ fn wipe(table: &mut [u32], from: usize)
 }
 
 impl Tables<'_> {
+    // The symbols, with names in that text, to be read.
+    pub fn known<'t>(&'t self, text: &'t [u8]) -> SymbolTable<'t>
+        ensures { result ≡ known_of text.entry self.now }
+    {
+        SymbolTable {
+            text,
+            rows: self.symbols,
+            inputs: self.inputs,
+            count: self.held.symbols,
+        }
+    }
+
     // Sets the cells behind what is used to zero.
     pub fn wipe_behind(&mut self)
         requires { CountsFit (lists_of self.old) self.old.held }

@@ -7,7 +7,7 @@ ghost use Rattle.rules.specs.TheoryTables.{prefix, prefixes};
 ghost use Rattle.sexp.specs.Items.{Holds};
 ghost use Rattle.kernel.specs.Reading.{SameTables, SameVars, Knows, ReadTo, PartRead, ListOpened, OpeningAt, PartAt, Placed, ArgumentsAt};
 
-use crate::names::{Kind, symbol_named};
+use crate::names::Kind;
 use crate::patterns::RuleReader;
 use questions::Question;
 use sexp::items::Item;
@@ -54,8 +54,7 @@ impl RuleReader<'_, '_> {
         let known = self.known;
         let end = lex::atom_end(known.text, start);
         let name = &known.text[start..end];
-        let Some(p) = symbol_named(known.text, known.rows, known.count, Kind::Predicate, name)
-        else {
+        let Some(p) = known.named(Kind::Predicate, name) else {
             return Err(Question::Declared);
         };
         let arity = known.rows[4 * p + 1] as usize;

@@ -27,14 +27,14 @@ returns-in_err-arity-clause-declared c = λ T xs h k n. rw (handed c.from_residu
 pub slice_bounds-bytes-end : goal.slice_bounds-bytes-end
 slice_bounds-bytes-end c = (proper_here 1 c.requires.form.xs c.proper_at.ensures c.in_ok-name.was c.requires.form.holds).high
 
-pub symbol_named-requires : goal.symbol_named-requires
-symbol_named-requires c = (c.requires.held.0.symbols, symbols_rows c.requires.held.1.symbols)
+pub named-requires : goal.named-requires
+named-requires c = rw c.known-known.ensures (c.requires.held.0.symbols, symbols_rows c.requires.held.1.symbols)
 
 pub returns-in_default-clause-declared : goal.returns-in_default-clause-declared
 returns-in_default-clause-declared c = λ T xs h k n. (
   pred_again T xs (proper_here 1 xs c.proper_at.ensures c.in_ok-name.was k)
       (stored_of _ c.arguments_at.new.row _ c.arguments_at.result (c.arguments_at.ensures T xs h.sorts k (omega (arith, n)))
-      c.in_ok-arity.was) (c.symbol_named.ensures T.symbols (symbols_rows h.symbols)) c.in_default.is,
+      c.in_ok-arity.was) ((rw c.known-known.ensures at c.named.ensures) T.symbols (symbols_rows h.symbols)) c.in_default.is,
   h,
 )
 
@@ -53,5 +53,5 @@ returns-clause-declared c = λ T xs h k n.
     stored_of _ c.arguments_at.new.row _ c.arguments_at.result (c.arguments_at.ensures T xs h.sorts k (omega (arith, n)))
     c.in_ok-arity.was in
     subst (λ z. DeclaredAs c.args.text.now (lists_of c.store.new.tables) c.store.new.tables.held T z c.store.result)
-    (sym (pred_is_new T xs name stored (c.symbol_named.ensures T.symbols (symbols_rows h.symbols)) c.in-None.is))
+    (sym (pred_is_new T xs name stored ((rw c.known-known.ensures at c.named.ensures) T.symbols (symbols_rows h.symbols)) c.in-None.is))
     (c.store.ensures.declared c.args.text.now T _ h (symbol_cells_lem T xs name stored _ refl))

@@ -22,40 +22,40 @@ pub slice_bounds-name-end : goal.slice_bounds-name-end
 slice_bounds-name-end c = (atom_span c.args.self.now.known.text.now _ _
     (atom_first c.requires.holds (eqb-false _ 0 (sym c.if-is_empty.ensures)) c.item_at.ensures c.in-Atom.is).inside c.atom_end-end.ensures).high
 
-pub symbol_named-requires : goal.symbol_named-requires
-symbol_named-requires c = (c.requires.held.0, symbols_rows c.requires.held.1)
+pub named-requires : goal.named-requires
+named-requires c = (c.requires.held.0, symbols_rows c.requires.held.1)
 
-pub returns-in_default-symbol_named-clause-opened : goal.returns-in_default-symbol_named-clause-opened
-returns-in_default-symbol_named-clause-opened c = λ T R zs h w k.
+pub returns-in_default-named-clause-opened : goal.returns-in_default-named-clause-opened
+returns-in_default-named-clause-opened c = λ T R zs h w k.
     judgment_unknown T R _ _ (atom_first k (eqb-false _ 0 (sym c.if-is_empty.ensures)) c.item_at.ensures c.in-Atom.is) _ c.atom_end-end.ensures h _
-    c.symbol_named.ensures c.in_default-symbol_named.is
+    c.named.ensures c.in_default-named.is
 
 pub overflow_mul-arity : goal.overflow_mul-arity
-overflow_mul-arity c = omega (arith, (head_row _ _ _ _ c.requires.held.1 c.symbol_named.ensures c.in-Some.is).0, c.well_formed)
+overflow_mul-arity c = omega (arith, (head_row _ _ _ _ c.requires.held.1 c.named.ensures c.in-Some.is).0, c.well_formed)
 
 pub overflow_add-arity : goal.overflow_add-arity
-overflow_add-arity c = omega (arith, (head_row _ _ _ _ c.requires.held.1 c.symbol_named.ensures c.in-Some.is).0, c.well_formed)
+overflow_add-arity c = omega (arith, (head_row _ _ _ _ c.requires.held.1 c.named.ensures c.in-Some.is).0, c.well_formed)
 
 pub offset_bounds-known-p : goal.offset_bounds-known-p
-offset_bounds-known-p c = omega (arith, (head_row _ _ _ _ c.requires.held.1 c.symbol_named.ensures c.in-Some.is).0, c.well_formed)
+offset_bounds-known-p c = omega (arith, (head_row _ _ _ _ c.requires.held.1 c.named.ensures c.in-Some.is).0, c.well_formed)
 
 pub bounds-known-p : goal.bounds-known-p
-bounds-known-p c = omega (arith, (head_row _ _ _ _ c.requires.held.1 c.symbol_named.ensures c.in-Some.is).0)
+bounds-known-p c = omega (arith, (head_row _ _ _ _ c.requires.held.1 c.named.ensures c.in-Some.is).0)
 
 pub returns-then-arity-many-clause-opened : goal.returns-then-arity-many-clause-opened
 returns-then-arity-many-clause-opened c = λ T R zs h w k.
     judgment_count T R _ _ (atom_first k (eqb-false _ 0 (sym c.if-is_empty.ensures)) c.item_at.ensures c.in-Atom.is) _ c.atom_end-end.ensures h _
-    c.symbol_named.ensures _ c.in-Some.is _ (c.count-many.ensures zs k.cells) c.if-arity-many.true
+    c.named.ensures _ c.in-Some.is _ (c.count-many.ensures zs k.cells) c.if-arity-many.true
 
 pub word-requires : goal.word-requires
-word-requires c = record { long = c.requires.long; small = omega (arith, (head_row _ _ _ _ c.requires.held.1 c.symbol_named.ensures c.in-Some.is).1) }
+word-requires c = record { long = c.requires.long; small = omega (arith, (head_row _ _ _ _ c.requires.held.1 c.named.ensures c.in-Some.is).1) }
 
 pub returns-in_err-word-clause-opened : goal.returns-in_err-word-clause-opened
 returns-in_err-word-clause-opened c = λ T R zs h w k. rw (handed c.from_residual.result c.from_residual.ensures)
     (judgment_full T R _ _ (atom_first k (eqb-false _ 0 (sym c.if-is_empty.ensures)) c.item_at.ensures c.in-Atom.is) _ c.atom_end-end.ensures h _
-    c.symbol_named.ensures _ c.in-Some.is _ (c.count-many.ensures zs k.cells) c.if-arity-many.false _ w c.in_err-word.ensures.put)
+    c.named.ensures _ c.in-Some.is _ (c.count-many.ensures zs k.cells) c.if-arity-many.false _ w c.in_err-word.ensures.put)
 
 pub returns-clause-opened : goal.returns-clause-opened
 returns-clause-opened c = λ T R zs h w k.
     judgment_opened T R _ _ (atom_first k (eqb-false _ 0 (sym c.if-is_empty.ensures)) c.item_at.ensures c.in-Atom.is) _ c.atom_end-end.ensures h _
-    c.symbol_named.ensures _ c.in-Some.is _ (c.count-many.ensures zs k.cells) c.if-arity-many.false _ w c.requires.long c.in_ok-word.ensures.put
+    c.named.ensures _ c.in-Some.is _ (c.count-many.ensures zs k.cells) c.if-arity-many.false _ w c.requires.long c.in_ok-word.ensures.put

@@ -1,6 +1,6 @@
 use mathlib.Core.Path.{sym, ◌∙◌}
 use Rattle.kernel.proofs.Rows.{symbol_is, symbol_not}
-use Rattle.kernel.proofs.names.is_symbol.Goals as goal
+use Rattle.kernel.proofs.names.SymbolTable.is_symbol.Goals as goal
 
 pub returns-then-has : goal.returns-then-has
 returns-then-has c = λ s a. c.same.ensures ∙ symbol_is c.args.name.now c.args.kind a (sym c.has.ensures ∙ c.if-has.true)

@@ -1,5 +1,5 @@
 use Rattle.kernel.proofs.Rows.{seeking_start, seeking_row, seeking_here, seeking_on, seeking_over}
-use Rattle.kernel.proofs.names.symbol_named.Goals as goal
+use Rattle.kernel.proofs.names.SymbolTable.named.Goals as goal
 
 pub loop-i-init : goal.loop-i-init
 loop-i-init c = seeking_start _ _ _ _ _ (c.requires)
