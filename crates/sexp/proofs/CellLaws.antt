@@ -15,29 +15,6 @@ stored L w₀ w u v e f h = rw (e, drop-cons w₀ u 0 h, add-one) (set_at L (get
 pub laid_length : (L w₀ w : List ℕ) (u : ℕ) → w ≡ L ++ drop u w₀ → length L ≡ u → u ≤ length w₀ → length w ≡ length w₀
 laid_length L w₀ w u e f h = ap length e ∙ omega (arith, length-append L (drop u w₀), length-drop u w₀)
 
--- the first i cells are set to zero, of `count`
-pub record Zeroing (w₀ w : List ℕ) (count i : ℕ) : Type 0 where
-  pub most : i ≤ count
-  pub size : length w ≡ length w₀
-  pub laid : w ≡ replicate i 0 ++ drop i w₀
-
-pub zero_none : (w : List ℕ) (count : ℕ) → Zeroing w w count 0
-zero_none w count = record { most = omega arith; size = refl; laid = refl }
-
-module _ {w₀ w : List ℕ} {count i : ℕ} (z : Zeroing w₀ w count i) where
-  pub zero_more : count ≤ length w₀ → i < count → Zeroing w₀ (set w i 0) count (i + 1)
-  zero_more h k =
-      record {
-        most = omega arith;
-        size = length-set w i 0 ∙ z.size;
-        laid = stored (replicate i 0) w₀ w i 0 z.laid (length-replicate i 0) (omega arith) ∙ ap (λ l. l ++ drop (i + 1) w₀) (replicate-append-replicate i 1 0);
-      }
-
-  pub zero_all : count ≤ i → w ≡ replicate count 0 ++ drop count w₀
-  zero_all h =
-      let e : i ≡ count = omega (arith, z.most) in
-      z.laid ∙ ap (λ (k : ℕ). replicate k 0 ++ drop k w₀) e
-
 zeros_apart : (n m : ℕ) → drop {A = ℕ} n (replicate (n + m) 0) ≡ replicate m 0
 zeros_apart n m = ap (drop n) (sym (replicate-append-replicate n m 0)) ∙ drop_at (replicate n 0) (replicate m 0) n (length-replicate n 0)
 

@@ -15,14 +15,6 @@ pub struct Form {
     pub cells: usize,
 }
 
-// Sets the first cells back to zero.
-pub fn clear(words: &mut [u32], count: usize)
-    requires { count ≤ length words.old }
-    ensures { words.new ≡ replicate count 0 ++ drop count words.old }
-{
-    words[..count].fill(0);
-}
-
 // Stores a number that fits a cell.
 fn put(words: &mut [u32], at: usize, cell: usize)
     requires { (at < length words.old) × (cell < 2 ^ 32) }
@@ -41,49 +33,51 @@ fn close_list(words: &mut [u32], head: usize, count: usize) -> usize
     around
 }
 
-// Reads the list whose bracket is at a place.
+// Where a list is not read, the cells that it has so far become zero again, and the question is left.
+fn give_up(words: &mut [u32], cells: usize, question: Question) -> Result<Form, Question>
+    requires { cells ≤ length words.old }
+    ensures { (result ≡ Err question) × (words.new ≡ replicate cells 0 ++ drop cells words.old) }
+{
+    words[..cells].fill(0);
+    Err(question)
+}
+
+// Reads the list whose bracket is at a place. The outermost list has the first cell, which is zero already.
 fn read_list(text: &[u8], from: usize, words: &mut [u32]) -> Result<Form, Question>
     requires from_in_bounds { (from < length text.now) × (get_or text.now from 0 ≡ 40) }
     requires text_len_bound { (length text.now ≤ LENGTH) × (length text.now ≤ length words.old) × Clear words.old }
     ensures { ReadRight text.now from words.old words.new (found result) }
 {
-    // the outermost list has the first cell, which is zero already
     let mut at = from + 1;
-    let mut used = 1;
+    let mut cells = 1;
     let mut depth = 1;
-    // the cell of the innermost open list
-    let mut open = 0;
+    let mut open = 0; // the cell of the innermost open list
     // from bracket to bracket or atom, which is no count
     loop {
         at = skip(text, at);
         if at >= text.len() {
-            clear(words, used);
-            return Err(Question::Brackets);
+            return give_up(words, cells, Question::Brackets);
         }
         let b = text[at];
         if b == b'(' {
             if depth == rules::DEPTH {
-                clear(words, used);
-                return Err(Question::Depth);
+                return give_up(words, cells, Question::Depth);
             }
-            put(words, used, open);
-            open = used;
-            used += 1;
+            put(words, cells, open);
+            open = cells;
+            cells += 1;
             depth += 1;
             at += 1;
         } else if b == b')' {
-            open = close_list(words, open, used - open - 1);
+            open = close_list(words, open, cells - open - 1);
             depth -= 1;
             at += 1;
             if depth == 0 {
-                return Ok(Form {
-                    end: at,
-                    cells: used,
-                });
+                return Ok(Form { end: at, cells });
             }
         } else {
-            put(words, used, 2 * at + 1);
-            used += 1;
+            put(words, cells, 2 * at + 1);
+            cells += 1;
             at = atom_end(text, at);
         }
     }
@@ -114,6 +108,13 @@ pub fn read_form(text: &[u8], from: usize, words: &mut [u32]) -> Result<Option<F
     }))
 }
 
+// The refusal of a text behind so many forms.
+fn refused(question: Question, form: usize) -> Refused
+    ensures { result ≡ record { question = question; form = form } }
+{
+    Refused { question, form }
+}
+
 // How many bracketed forms a text has, without a look at them and without cells; of a text that is refused, how many stand before.
 pub fn read_all(text: &[u8]) -> Result<usize, Refused>
     ensures { EndsAs (read text.now) 0 result }
@@ -128,27 +129,18 @@ pub fn read_all(text: &[u8]) -> Result<usize, Refused>
             if depth == 0 {
                 return Ok(forms);
             }
-            return Err(Refused {
-                question: Question::Brackets,
-                form: forms,
-            });
+            return Err(refused(Question::Brackets, forms));
         }
         let b = text[at];
         if b == b'(' {
             if depth == rules::DEPTH {
-                return Err(Refused {
-                    question: Question::Depth,
-                    form: forms,
-                });
+                return Err(refused(Question::Depth, forms));
             }
             depth += 1;
             at += 1;
         } else if b == b')' {
             if depth == 0 {
-                return Err(Refused {
-                    question: Question::Brackets,
-                    form: forms,
-                });
+                return Err(refused(Question::Brackets, forms));
             }
             depth -= 1;
             at += 1;

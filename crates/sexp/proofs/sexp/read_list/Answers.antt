@@ -17,44 +17,45 @@ loop-at-init c = (states.opened _ _ _ c.requires.from_in_bounds c.requires.text_
 pub skip-at-requires : goal.skip-at-requires
 skip-at-requires c = c.loop-at.invariant.0.high
 
-pub clear-requires : goal.clear-requires
-clear-requires c = let here : State c.args.text.now c.args.from c.args.words.now c.loop-at.words c.skip-at.result c.loop-at.used c.loop-at.depth c.loop-at.«open» = states.skipped c.loop-at.invariant.0 _ c.skip-at.ensures in
+pub give_up-requires : goal.give_up-requires
+give_up-requires c = let here : State c.args.text.now c.args.from c.args.words.now c.loop-at.words c.skip-at.result c.loop-at.cells c.loop-at.depth c.loop-at.«open» = states.skipped c.loop-at.invariant.0 _ c.skip-at.ensures in
     (states.used_most here).1
 
 pub shape_of-words-then-at-text : goal.shape_of-words-then-at-text
-shape_of-words-then-at-text c = let here : State c.args.text.now c.args.from c.args.words.now c.loop-at.words c.skip-at.result c.loop-at.used c.loop-at.depth c.loop-at.«open» = states.skipped c.loop-at.invariant.0 _ c.skip-at.ensures in
-    c.clear.auto.words ∙ states.same_length here
+shape_of-words-then-at-text c = let here : State c.args.text.now c.args.from c.args.words.now c.loop-at.words c.skip-at.result c.loop-at.cells c.loop-at.depth c.loop-at.«open» = states.skipped c.loop-at.invariant.0 _ c.skip-at.ensures in
+    c.give_up.auto.words ∙ states.same_length here
 
 pub returns-then-at-text : goal.returns-then-at-text
-returns-then-at-text c = let here : State c.args.text.now c.args.from c.args.words.now c.loop-at.words c.skip-at.result c.loop-at.used c.loop-at.depth c.loop-at.«open» = states.skipped c.loop-at.invariant.0 _ c.skip-at.ensures in
-    states.refused here Brackets states.brackets (states.unclosed here c.if-at-text.true c.loop-at.invariant.1) _ c.clear.ensures
+returns-then-at-text c = let here : State c.args.text.now c.args.from c.args.words.now c.loop-at.words c.skip-at.result c.loop-at.cells c.loop-at.depth c.loop-at.«open» = states.skipped c.loop-at.invariant.0 _ c.skip-at.ensures in
+    rw c.give_up.ensures.0 (states.refused here Brackets states.brackets (states.unclosed here c.if-at-text.true c.loop-at.invariant.1) _ c.give_up.ensures.1)
 
 pub bounds-text-at : goal.bounds-text-at
 bounds-text-at c = c.if-at-text.false
 
-pub clear-requires-then-depth-eq-DEPTH : goal.clear-requires-then-depth-eq-DEPTH
-clear-requires-then-depth-eq-DEPTH c = let here : State c.args.text.now c.args.from c.args.words.now c.loop-at.words c.skip-at.result c.loop-at.used c.loop-at.depth c.loop-at.«open» = states.skipped c.loop-at.invariant.0 _ c.skip-at.ensures in
+pub give_up-requires-then-depth-eq-DEPTH : goal.give_up-requires-then-depth-eq-DEPTH
+give_up-requires-then-depth-eq-DEPTH c = let here : State c.args.text.now c.args.from c.args.words.now c.loop-at.words c.skip-at.result c.loop-at.cells c.loop-at.depth c.loop-at.«open» = states.skipped c.loop-at.invariant.0 _ c.skip-at.ensures in
     (states.used_most here).1
 
 pub shape_of-words-then-depth-eq-DEPTH : goal.shape_of-words-then-depth-eq-DEPTH
-shape_of-words-then-depth-eq-DEPTH c = let here : State c.args.text.now c.args.from c.args.words.now c.loop-at.words c.skip-at.result c.loop-at.used c.loop-at.depth c.loop-at.«open» = states.skipped c.loop-at.invariant.0 _ c.skip-at.ensures in
-    c.clear-then-depth-eq-DEPTH.auto.words ∙ states.same_length here
+shape_of-words-then-depth-eq-DEPTH c = let here : State c.args.text.now c.args.from c.args.words.now c.loop-at.words c.skip-at.result c.loop-at.cells c.loop-at.depth c.loop-at.«open» = states.skipped c.loop-at.invariant.0 _ c.skip-at.ensures in
+    c.give_up-then-depth-eq-DEPTH.auto.words ∙ states.same_length here
 
 pub returns-then-depth-eq-DEPTH : goal.returns-then-depth-eq-DEPTH
-returns-then-depth-eq-DEPTH c = let here : State c.args.text.now c.args.from c.args.words.now c.loop-at.words c.skip-at.result c.loop-at.used c.loop-at.depth c.loop-at.«open» = states.skipped c.loop-at.invariant.0 _ c.skip-at.ensures in
-    states.refused here Depth (record { number = refl; detail = refl }) (states.too_deep here c.if-at-text.false c.if-b-eq40.true c.if-depth-eq-DEPTH.true) _
-    c.clear-then-depth-eq-DEPTH.ensures
+returns-then-depth-eq-DEPTH c = let here : State c.args.text.now c.args.from c.args.words.now c.loop-at.words c.skip-at.result c.loop-at.cells c.loop-at.depth c.loop-at.«open» = states.skipped c.loop-at.invariant.0 _ c.skip-at.ensures in
+    rw c.give_up-then-depth-eq-DEPTH.ensures.0
+    (states.refused here Depth (record { number = refl; detail = refl }) (states.too_deep here c.if-at-text.false c.if-b-eq40.true c.if-depth-eq-DEPTH.true) _
+    c.give_up-then-depth-eq-DEPTH.ensures.1)
 
 pub put-requires : goal.put-requires
-put-requires c = let here : State c.args.text.now c.args.from c.args.words.now c.loop-at.words c.skip-at.result c.loop-at.used c.loop-at.depth c.loop-at.«open» = states.skipped c.loop-at.invariant.0 _ c.skip-at.ensures in
+put-requires c = let here : State c.args.text.now c.args.from c.args.words.now c.loop-at.words c.skip-at.result c.loop-at.cells c.loop-at.depth c.loop-at.«open» = states.skipped c.loop-at.invariant.0 _ c.skip-at.ensures in
     states.room_open here c.if-at-text.false
 
-pub overflow_add-used : goal.overflow_add-used
-overflow_add-used c = let here : State c.args.text.now c.args.from c.args.words.now c.loop-at.words c.skip-at.result c.loop-at.used c.loop-at.depth c.loop-at.«open» = states.skipped c.loop-at.invariant.0 _ c.skip-at.ensures in
+pub overflow_add-cells : goal.overflow_add-cells
+overflow_add-cells c = let here : State c.args.text.now c.args.from c.args.words.now c.loop-at.words c.skip-at.result c.loop-at.cells c.loop-at.depth c.loop-at.«open» = states.skipped c.loop-at.invariant.0 _ c.skip-at.ensures in
     omega (arith, (states.used_most here).0)
 
 pub overflow_add-depth : goal.overflow_add-depth
-overflow_add-depth c = let here : State c.args.text.now c.args.from c.args.words.now c.loop-at.words c.skip-at.result c.loop-at.used c.loop-at.depth c.loop-at.«open» = states.skipped c.loop-at.invariant.0 _ c.skip-at.ensures in
+overflow_add-depth c = let here : State c.args.text.now c.args.from c.args.words.now c.loop-at.words c.skip-at.result c.loop-at.cells c.loop-at.depth c.loop-at.«open» = states.skipped c.loop-at.invariant.0 _ c.skip-at.ensures in
     omega (arith, here.most)
 
 pub overflow_add-at-then-b-eq40 : goal.overflow_add-at-then-b-eq40
@@ -64,19 +65,19 @@ pub loop-at-smaller-then-b-eq40 : goal.loop-at-smaller-then-b-eq40
 loop-at-smaller-then-b-eq40 c = omega (arith, c.if-at-text.false, c.skip-at.ensures.low)
 
 pub loop-at-preserved-then-b-eq40 : goal.loop-at-preserved-then-b-eq40
-loop-at-preserved-then-b-eq40 c = let here : State c.args.text.now c.args.from c.args.words.now c.loop-at.words c.skip-at.result c.loop-at.used c.loop-at.depth c.loop-at.«open» = states.skipped c.loop-at.invariant.0 _ c.skip-at.ensures in
+loop-at-preserved-then-b-eq40 c = let here : State c.args.text.now c.args.from c.args.words.now c.loop-at.words c.skip-at.result c.loop-at.cells c.loop-at.depth c.loop-at.«open» = states.skipped c.loop-at.invariant.0 _ c.skip-at.ensures in
     (rw c.put.ensures (states.opens_on here c.if-at-text.false c.if-b-eq40.true c.if-depth-eq-DEPTH.false), λ e. omega arith)
 
-pub overflow_sub-used : goal.overflow_sub-used
-overflow_sub-used c = let here : State c.args.text.now c.args.from c.args.words.now c.loop-at.words c.skip-at.result c.loop-at.used c.loop-at.depth c.loop-at.«open» = states.skipped c.loop-at.invariant.0 _ c.skip-at.ensures in
+pub overflow_sub-cells : goal.overflow_sub-cells
+overflow_sub-cells c = let here : State c.args.text.now c.args.from c.args.words.now c.loop-at.words c.skip-at.result c.loop-at.cells c.loop-at.depth c.loop-at.«open» = states.skipped c.loop-at.invariant.0 _ c.skip-at.ensures in
     omega (arith, states.head_used here c.loop-at.invariant.1)
 
-pub overflow_sub-used-then-b-eq41 : goal.overflow_sub-used-then-b-eq41
-overflow_sub-used-then-b-eq41 c = let here : State c.args.text.now c.args.from c.args.words.now c.loop-at.words c.skip-at.result c.loop-at.used c.loop-at.depth c.loop-at.«open» = states.skipped c.loop-at.invariant.0 _ c.skip-at.ensures in
+pub overflow_sub-cells-then-b-eq41 : goal.overflow_sub-cells-then-b-eq41
+overflow_sub-cells-then-b-eq41 c = let here : State c.args.text.now c.args.from c.args.words.now c.loop-at.words c.skip-at.result c.loop-at.cells c.loop-at.depth c.loop-at.«open» = states.skipped c.loop-at.invariant.0 _ c.skip-at.ensures in
     omega (arith, states.head_used here c.loop-at.invariant.1)
 
 pub close_list-open-requires : goal.close_list-open-requires
-close_list-open-requires c = let here : State c.args.text.now c.args.from c.args.words.now c.loop-at.words c.skip-at.result c.loop-at.used c.loop-at.depth c.loop-at.«open» = states.skipped c.loop-at.invariant.0 _ c.skip-at.ensures in
+close_list-open-requires c = let here : State c.args.text.now c.args.from c.args.words.now c.loop-at.words c.skip-at.result c.loop-at.cells c.loop-at.depth c.loop-at.«open» = states.skipped c.loop-at.invariant.0 _ c.skip-at.ensures in
     states.room_close here c.loop-at.invariant.1
 
 pub overflow_sub-depth : goal.overflow_sub-depth
@@ -86,18 +87,18 @@ pub overflow_add-at-then-b-eq41 : goal.overflow_add-at-then-b-eq41
 overflow_add-at-then-b-eq41 c = omega (arith, c.if-at-text.false, c.requires.text_len_bound.0)
 
 pub shape_of-words-then-depth-eq0 : goal.shape_of-words-then-depth-eq0
-shape_of-words-then-depth-eq0 c = let here : State c.args.text.now c.args.from c.args.words.now c.loop-at.words c.skip-at.result c.loop-at.used c.loop-at.depth c.loop-at.«open» = states.skipped c.loop-at.invariant.0 _ c.skip-at.ensures in
+shape_of-words-then-depth-eq0 c = let here : State c.args.text.now c.args.from c.args.words.now c.loop-at.words c.skip-at.result c.loop-at.cells c.loop-at.depth c.loop-at.«open» = states.skipped c.loop-at.invariant.0 _ c.skip-at.ensures in
     c.close_list-open.auto.words ∙ states.same_length here
 
 pub returns-then-depth-eq0 : goal.returns-then-depth-eq0
-returns-then-depth-eq0 c = let here : State c.args.text.now c.args.from c.args.words.now c.loop-at.words c.skip-at.result c.loop-at.used c.loop-at.depth c.loop-at.«open» = states.skipped c.loop-at.invariant.0 _ c.skip-at.ensures in
+returns-then-depth-eq0 c = let here : State c.args.text.now c.args.from c.args.words.now c.loop-at.words c.skip-at.result c.loop-at.cells c.loop-at.depth c.loop-at.«open» = states.skipped c.loop-at.invariant.0 _ c.skip-at.ensures in
     rw c.close_list-open.ensures.1 (states.closes_last here c.if-at-text.false c.if-b-eq41.true c.loop-at.invariant.1 c.if-depth-eq0.true)
 
 pub loop-at-smaller-else-depth-eq0 : goal.loop-at-smaller-else-depth-eq0
 loop-at-smaller-else-depth-eq0 c = omega (arith, c.if-at-text.false, c.skip-at.ensures.low)
 
 pub loop-at-preserved-else-depth-eq0 : goal.loop-at-preserved-else-depth-eq0
-loop-at-preserved-else-depth-eq0 c = let here : State c.args.text.now c.args.from c.args.words.now c.loop-at.words c.skip-at.result c.loop-at.used c.loop-at.depth c.loop-at.«open» = states.skipped c.loop-at.invariant.0 _ c.skip-at.ensures in (
+loop-at-preserved-else-depth-eq0 c = let here : State c.args.text.now c.args.from c.args.words.now c.loop-at.words c.skip-at.result c.loop-at.cells c.loop-at.depth c.loop-at.«open» = states.skipped c.loop-at.invariant.0 _ c.skip-at.ensures in (
   rw (c.close_list-open.ensures.0, c.close_list-open.ensures.1)
       (states.closes_on here c.if-at-text.false c.if-b-eq41.true c.loop-at.invariant.1 c.if-depth-eq0.false),
   c.if-depth-eq0.false,
@@ -110,24 +111,24 @@ pub overflow_add-at-else-b-eq41 : goal.overflow_add-at-else-b-eq41
 overflow_add-at-else-b-eq41 c = omega (arith, c.if-at-text.false, c.requires.text_len_bound.0)
 
 pub put-requires-else-b-eq41 : goal.put-requires-else-b-eq41
-put-requires-else-b-eq41 c = let here : State c.args.text.now c.args.from c.args.words.now c.loop-at.words c.skip-at.result c.loop-at.used c.loop-at.depth c.loop-at.«open» = states.skipped c.loop-at.invariant.0 _ c.skip-at.ensures in
+put-requires-else-b-eq41 c = let here : State c.args.text.now c.args.from c.args.words.now c.loop-at.words c.skip-at.result c.loop-at.cells c.loop-at.depth c.loop-at.«open» = states.skipped c.loop-at.invariant.0 _ c.skip-at.ensures in
     states.room_word here c.if-at-text.false
 
-pub overflow_add-used-else-b-eq41 : goal.overflow_add-used-else-b-eq41
-overflow_add-used-else-b-eq41 c = let here : State c.args.text.now c.args.from c.args.words.now c.loop-at.words c.skip-at.result c.loop-at.used c.loop-at.depth c.loop-at.«open» = states.skipped c.loop-at.invariant.0 _ c.skip-at.ensures in
+pub overflow_add-cells-else-b-eq41 : goal.overflow_add-cells-else-b-eq41
+overflow_add-cells-else-b-eq41 c = let here : State c.args.text.now c.args.from c.args.words.now c.loop-at.words c.skip-at.result c.loop-at.cells c.loop-at.depth c.loop-at.«open» = states.skipped c.loop-at.invariant.0 _ c.skip-at.ensures in
     omega (arith, (states.used_most here).0)
 
 pub atom_end-at-requires : goal.atom_end-at-requires
-atom_end-at-requires c = let here : State c.args.text.now c.args.from c.args.words.now c.loop-at.words c.skip-at.result c.loop-at.used c.loop-at.depth c.loop-at.«open» = states.skipped c.loop-at.invariant.0 _ c.skip-at.ensures in
+atom_end-at-requires c = let here : State c.args.text.now c.args.from c.args.words.now c.loop-at.words c.skip-at.result c.loop-at.cells c.loop-at.depth c.loop-at.«open» = states.skipped c.loop-at.invariant.0 _ c.skip-at.ensures in
     here.high
 
 pub loop-at-smaller : goal.loop-at-smaller
-loop-at-smaller c = let here : State c.args.text.now c.args.from c.args.words.now c.loop-at.words c.skip-at.result c.loop-at.used c.loop-at.depth c.loop-at.«open» = states.skipped c.loop-at.invariant.0 _ c.skip-at.ensures in
+loop-at-smaller c = let here : State c.args.text.now c.args.from c.args.words.now c.loop-at.words c.skip-at.result c.loop-at.cells c.loop-at.depth c.loop-at.«open» = states.skipped c.loop-at.invariant.0 _ c.skip-at.ensures in
     let letter_at : kind (get_or c.args.text.now c.skip-at.result 0) ≡ letter = letter_here _ (c.skip-at.ensures.no_blank c.if-at-text.false) (c.skip-at.ensures.no_comment c.if-at-text.false) c.if-b-eq40.false c.if-b-eq41.false in
     omega (arith, states.longer here c.if-at-text.false letter_at _ c.atom_end-at.ensures, c.if-at-text.false, c.skip-at.ensures.low)
 
 pub loop-at-preserved : goal.loop-at-preserved
-loop-at-preserved c = let here : State c.args.text.now c.args.from c.args.words.now c.loop-at.words c.skip-at.result c.loop-at.used c.loop-at.depth c.loop-at.«open» = states.skipped c.loop-at.invariant.0 _ c.skip-at.ensures in
+loop-at-preserved c = let here : State c.args.text.now c.args.from c.args.words.now c.loop-at.words c.skip-at.result c.loop-at.cells c.loop-at.depth c.loop-at.«open» = states.skipped c.loop-at.invariant.0 _ c.skip-at.ensures in
     let letter_at : kind (get_or c.args.text.now c.skip-at.result 0) ≡ letter = letter_here _ (c.skip-at.ensures.no_blank c.if-at-text.false) (c.skip-at.ensures.no_comment c.if-at-text.false) c.if-b-eq40.false c.if-b-eq41.false in (
       rw c.put-else-b-eq41.ensures (states.word_on here c.if-at-text.false letter_at _ c.atom_end-at.ensures c.loop-at.invariant.1),
       c.loop-at.invariant.1,
