@@ -1,7 +1,7 @@
 -- What the readers and writers of rows cite: cells of a row, spans of lists, a row more. Assumes nothing.
 use Rattle.std.specs.Prelude.{◌≡◌, ℕ, ◌+◌, ◌*◌, ◌^◌, ◌<◌, ◌≤◌, Bool, true, false, not, ◌&&◌, List, eqb, ltb, length, get_or, Some as some, None as nothing, Option, Result, Ok, Err}
 use Rattle.std.proofs.lemmas.List.Edits.{sets}
-use Rattle.rules.specs.Limits.{FACTS, ENTRIES}
+use Rattle.rules.specs.Limits.{VARIABLES, GOALS, FACTS, ENTRIES}
 use Rattle.rules.specs.Tree.{var}
 use Rattle.rules.specs.Store.{Made}
 use Rattle.rules.specs.State.{Var, Def, Goal, abbreviated}
@@ -9,7 +9,8 @@ use Rattle.state.specs.Held.{VarsHeld, DefsHeld, GoalsHeld, Records}
 use Rattle.state.specs.declared.sizes.Sizes.{Sizes}
 use Rattle.cells.specs.declared.Span.{Span}
 use Rattle.questions.specs.declared.Row.{Row}
-use Rattle.questions.specs.Numbers.{row_number}
+use Rattle.questions.specs.declared.Text.{Text}
+use Rattle.questions.specs.Numbers.{row_number, text_number}
 
 -- cell j of row i, of w cells a row
 abbrev pub cell : ℕ → List ℕ → ℕ → ℕ → ℕ
@@ -27,6 +28,15 @@ pub record Fits4 (a b c d : ℕ) : Type 0 where
 abbrev pub SomeVars : List ℕ → List ℕ → List ℕ → ℕ → Type 0
 SomeVars goals text vars count = (vs : List Var) × VarsHeld goals text vars count vs
 
+-- a whole table of them, and the number of a row
+abbrev pub VarAt : List ℕ → ℕ → Type 0
+VarAt vars v = (length vars ≡ 4 * VARIABLES) × (v < VARIABLES)
+
+-- the cell for the text of a name, 0 for that of a made variable
+abbrev pub text_cell : Option Text → ℕ
+text_cell (some t) = text_number t
+text_cell nothing = 0
+
 -- Abbreviations ------------------------------------------------------------------------------------------------------------------
 
 abbrev pub SomeDefs : List ℕ → List ℕ → ℕ → Type 0
@@ -42,10 +52,19 @@ DefFound M ds name nothing = abbreviated ds name ≡ nothing
 abbrev pub SomeGoals : List ℕ → List ℕ → ℕ → Type 0
 SomeGoals text goals count = (M : Made) × (gs : List Goal) × GoalsHeld text goals count M gs
 
+abbrev pub GoalAt : List ℕ → ℕ → Type 0
+GoalAt goals k = (length goals ≡ 6 * GOALS) × (k < GOALS)
+
 abbrev pub list_span : List ℕ → ℕ → Span
 list_span goals k = record { from = cell 6 goals k 3; end = cell 6 goals k 3 + cell 6 goals k 4 }
 
 -- Facts ----------------------------------------------------------------------------------------------------------------------------
+
+abbrev pub FactAt : List ℕ → ℕ → Type 0
+FactAt facts i = (length facts ≡ 6 * FACTS) × (i < FACTS)
+
+abbrev pub FootingAt : List ℕ → ℕ → Type 0
+FootingAt footings i = (length footings ≡ 4 * FACTS) × (i < FACTS)
 
 abbrev pub hyps_span : List ℕ → ℕ → Span
 hyps_span facts i = record { from = cell 6 facts i 2; end = cell 6 facts i 2 + cell 6 facts i 3 }

@@ -1,12 +1,12 @@
 // The tables of facts: a row each (judgment, whether it is assumed, its entries), its entries in the lists (hypotheses, premises, generalised
 // variables), and its footing, a set of rules.
-ghost use Rattle.std.specs.Prelude.{◌≡◌, not, List, [], ◌∷◌, ℕ, ◌+◌, ◌*◌, ◌<◌, ◌≤◌, ◌^◌, eqb, ltb, length, take, drop};
+ghost use Rattle.std.specs.Prelude.{◌≡◌, true, false, not, List, [], ◌∷◌, ℕ, ◌+◌, ◌*◌, ◌<◌, ◌≤◌, ◌^◌, eqb, ltb, length, take, drop};
 ghost use Rattle.std.proofs.lemmas.List.Edits.{sets};
 ghost use Rattle.rules.specs.Limits.{FACTS, ENTRIES};
 ghost use Rattle.rules.specs.Find.{union, rising};
 ghost use Rattle.terms.specs.Sets.{holds};
 ghost use Rattle.state.specs.Held.{records};
-ghost use Rattle.state.specs.Rows.{cell, hyps_span, premises_span, general_span, plain_row, Putting, PutAs};
+ghost use Rattle.state.specs.Rows.{cell, FactAt, FootingAt, hyps_span, premises_span, general_span, plain_row, Putting, PutAs};
 
 use crate::sizes::Sizes;
 use cells::Span;
@@ -22,7 +22,7 @@ pub fn is_fact(n: Sizes, i: usize) -> bool
 
 // The judgment of fact i.
 pub fn judgment(facts: &[u32], i: usize) -> usize
-    requires { (length facts.now ≡ 6 * FACTS) × (i < FACTS) }
+    requires { FactAt facts.now i }
     ensures { result ≡ cell 6 facts.now i 0 }
 {
     facts[6 * i] as usize
@@ -30,7 +30,7 @@ pub fn judgment(facts: &[u32], i: usize) -> usize
 
 // Whether fact i is a hypothesis.
 pub fn is_assumed(facts: &[u32], i: usize) -> bool
-    requires { (length facts.now ≡ 6 * FACTS) × (i < FACTS) }
+    requires { FactAt facts.now i }
     ensures { result ≡ not (eqb (cell 6 facts.now i 1) 0) }
 {
     facts[6 * i + 1] != 0
@@ -38,7 +38,7 @@ pub fn is_assumed(facts: &[u32], i: usize) -> bool
 
 // Whether it is one without premises and generalised variables.
 pub fn is_plain(facts: &[u32], i: usize) -> bool
-    requires { (length facts.now ≡ 6 * FACTS) × (i < FACTS) }
+    requires { FactAt facts.now i }
     ensures { result ≡ plain_row facts.now i }
 {
     let at = 6 * i;
@@ -47,7 +47,7 @@ pub fn is_plain(facts: &[u32], i: usize) -> bool
 
 // The entries of fact i's hypotheses.
 pub fn hyps(facts: &[u32], i: usize) -> Span
-    requires { (length facts.now ≡ 6 * FACTS) × (i < FACTS) }
+    requires { FactAt facts.now i }
     ensures { result ≡ hyps_span facts.now i }
 {
     let at = 6 * i;
@@ -60,7 +60,7 @@ pub fn hyps(facts: &[u32], i: usize) -> Span
 
 // The entries of its premises.
 pub fn premises(facts: &[u32], i: usize) -> Span
-    requires { (length facts.now ≡ 6 * FACTS) × (i < FACTS) }
+    requires { FactAt facts.now i }
     ensures { result ≡ premises_span facts.now i }
 {
     let at = 6 * i;
@@ -73,7 +73,7 @@ pub fn premises(facts: &[u32], i: usize) -> Span
 
 // The entries of its generalised variables.
 pub fn general(facts: &[u32], i: usize) -> Span
-    requires { (length facts.now ≡ 6 * FACTS) × (i < FACTS) }
+    requires { FactAt facts.now i }
     ensures { result ≡ general_span facts.now i }
 {
     let at = 6 * i;
@@ -86,7 +86,7 @@ pub fn general(facts: &[u32], i: usize) -> Span
 
 // The footing of fact i joins the set.
 pub fn join_footing(footings: &[u64], i: usize, set: &mut [u64])
-    requires { (length footings.now ≡ 4 * FACTS) × (i < FACTS) × (length set.old ≡ 4) }
+    requires { FootingAt footings.now i × (length set.old ≡ 4) }
     ensures { holds set.new ≡ union (holds set.old) (holds (take 4 (drop (4 * i) footings.now))) }
 {
     let from = 4 * i;
@@ -99,18 +99,18 @@ fn put_row(
     facts: &mut [u32],
     i: usize,
     judgment: usize,
-    assumed: usize,
+    assumed: bool,
     from: usize,
     hyps: usize,
     premises: usize,
     general: usize,
 )
-    requires { (length facts.old ≡ 6 * FACTS) × (i < FACTS) × (judgment < 2 ^ 32) × (assumed < 2) × (from + (hyps + premises + general) ≤ ENTRIES) }
-    ensures { facts.new ≡ sets facts.old (6 * i) (judgment ∷ assumed ∷ from ∷ hyps ∷ premises ∷ general ∷ []) }
+    requires { FactAt facts.old i × (judgment < 2 ^ 32) × (from + (hyps + premises + general) ≤ ENTRIES) }
+    ensures { facts.new ≡ sets facts.old (6 * i) (judgment ∷ elim assumed [ true ↦ 1 | false ↦ 0 ] ∷ from ∷ hyps ∷ premises ∷ general ∷ []) }
 {
     let at = 6 * i;
     facts[at] = judgment as u32;
-    facts[at + 1] = assumed as u32;
+    facts[at + 1] = u32::from(assumed);
     facts[at + 2] = from as u32;
     facts[at + 3] = hyps as u32;
     facts[at + 4] = premises as u32;
@@ -119,7 +119,7 @@ fn put_row(
 
 // The footing of fact i.
 fn put_footing(footings: &mut [u64], i: usize, footing: &[u64])
-    requires { (length footings.old ≡ 4 * FACTS) × (i < FACTS) × (length footing.now ≡ 4) }
+    requires { FootingAt footings.old i × (length footing.now ≡ 4) }
     ensures { footings.new ≡ sets footings.old (4 * i) footing.now }
 {
     let at = 4 * i;
@@ -153,7 +153,7 @@ pub fn put_derived(
     if rules::ENTRIES < end {
         return Err(Row::Entries);
     }
-    put_row(facts, i, judgment, 0, from, many, 0, 0);
+    put_row(facts, i, judgment, false, from, many, 0, 0);
     put_footing(footings, i, footing);
     write_out(hyps, &mut lists[from..]);
     Ok(end)
@@ -182,7 +182,7 @@ pub fn put_hypothesis(
     if rules::ENTRIES < end {
         return Err(Row::Entries);
     }
-    put_row(facts, i, judgment, 1, from, 1, premises, general);
+    put_row(facts, i, judgment, true, from, 1, premises, general);
     lists[from] = i as u32;
     Ok(end)
 }

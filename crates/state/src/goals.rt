@@ -1,11 +1,10 @@
 // The table of goals: name, judgment, entries of its list of hypotheses, whether its result has come.
-ghost use Rattle.std.specs.Prelude.{◌≡◌, not, List, [], ◌∷◌, ℕ, ◌+◌, ◌*◌, ◌<◌, ◌^◌, eqb, length, set};
+ghost use Rattle.std.specs.Prelude.{◌≡◌, not, List, [], ◌∷◌, ℕ, ◌+◌, ◌*◌, ◌<◌, ◌^◌, eqb, set};
 ghost use Rattle.std.proofs.lemmas.List.Edits.{sets};
-ghost use Rattle.rules.specs.Limits.{GOALS};
 ghost use Rattle.rules.specs.Store.{Made};
 ghost use Rattle.rules.specs.State.{Goal, goal_named};
 ghost use Rattle.state.specs.Held.{GoalsHeld};
-ghost use Rattle.state.specs.Rows.{cell, Fits4, SomeGoals, list_span};
+ghost use Rattle.state.specs.Rows.{cell, Fits4, SomeGoals, GoalAt, list_span};
 
 use cells::Span;
 use sexp::names::named;
@@ -20,7 +19,7 @@ pub fn goal_named(text: &[u8], goals: &[u32], count: usize, name: &[u8]) -> Opti
 
 // The judgment of goal k.
 pub fn goal_judgment(goals: &[u32], k: usize) -> usize
-    requires { (length goals.now ≡ 6 * GOALS) × (k < GOALS) }
+    requires { GoalAt goals.now k }
     ensures { result ≡ cell 6 goals.now k 2 }
 {
     goals[6 * k + 2] as usize
@@ -28,7 +27,7 @@ pub fn goal_judgment(goals: &[u32], k: usize) -> usize
 
 // The entries of goal k's hypotheses.
 pub fn goal_hyps(goals: &[u32], k: usize) -> Span
-    requires { (length goals.now ≡ 6 * GOALS) × (k < GOALS) }
+    requires { GoalAt goals.now k }
     ensures { result ≡ list_span goals.now k }
 {
     let at = 6 * k;
@@ -41,7 +40,7 @@ pub fn goal_hyps(goals: &[u32], k: usize) -> Span
 
 // Whether goal k's result has come.
 pub fn is_taken(goals: &[u32], k: usize) -> bool
-    requires { (length goals.now ≡ 6 * GOALS) × (k < GOALS) }
+    requires { GoalAt goals.now k }
     ensures { result ≡ not (eqb (cell 6 goals.now k 5) 0) }
 {
     goals[6 * k + 5] != 0
@@ -49,7 +48,7 @@ pub fn is_taken(goals: &[u32], k: usize) -> bool
 
 // Goal k's result has come.
 pub fn take_goal(goals: &mut [u32], k: usize)
-    requires { (length goals.old ≡ 6 * GOALS) × (k < GOALS) }
+    requires { GoalAt goals.old k }
     ensures { goals.new ≡ set goals.old (6 * k + 5) 1 }
 {
     goals[6 * k + 5] = 1;
@@ -65,7 +64,7 @@ pub fn put_goal(
     from: usize,
     hyps: usize,
 )
-    requires { (length goals.old ≡ 6 * GOALS) × (k < GOALS) × Fits4 start end judgment from × (hyps < 2 ^ 32) }
+    requires { GoalAt goals.old k × Fits4 start end judgment from × (hyps < 2 ^ 32) }
     ensures { goals.new ≡ sets goals.old (6 * k) (start ∷ end ∷ judgment ∷ from ∷ hyps ∷ 0 ∷ []) }
 {
     let at = 6 * k;

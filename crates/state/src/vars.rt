@@ -1,14 +1,24 @@
 // The table of variables: sort, text, name. Those of the goals have their names in the goals, those of the proof in the text that is read; a made
 // one has none.
-ghost use Rattle.std.specs.Prelude.{◌≡◌, List, [], ◌∷◌, ℕ, ◌*◌, ◌<◌, length, get_or};
+ghost use Rattle.std.specs.Prelude.{◌≡◌, List, [], ◌∷◌, ℕ, ◌*◌, ◌<◌, get_or};
 ghost use Rattle.std.proofs.lemmas.List.Edits.{sets};
-ghost use Rattle.rules.specs.Limits.{VARIABLES};
 ghost use Rattle.rules.specs.Text.{same};
 ghost use Rattle.rules.specs.State.{Var, var_named, no_var};
 ghost use Rattle.state.specs.Held.{VarsHeld};
-ghost use Rattle.state.specs.Rows.{cell, Fits4, SomeVars};
+ghost use Rattle.state.specs.Rows.{cell, Fits4, SomeVars, VarAt, text_cell};
 
+use questions::Text;
 use sexp::names::same;
+
+// The cell for the text in which a variable's name stands; a made variable has none, and 0 there.
+fn text_cell(text: Option<Text>) -> u32
+    ensures { result ≡ text_cell text }
+{
+    match text {
+        Some(text) => text.number() as u32,
+        None => 0,
+    }
+}
 
 // Whether variable i has these bytes for a name.
 fn is_var(goals: &[u8], text: &[u8], vars: &[u32], count: usize, i: usize, name: &[u8]) -> bool
@@ -18,7 +28,7 @@ fn is_var(goals: &[u8], text: &[u8], vars: &[u32], count: usize, i: usize, name:
     let at = 4 * i;
     let start = vars[at + 2] as usize;
     let end = vars[at + 3] as usize;
-    if vars[at + 1] == 2 {
+    if vars[at + 1] == text_cell(Some(Text::Goals)) {
         return same(&goals[start..end], name);
     }
     same(&text[start..end], name)
@@ -43,22 +53,29 @@ pub fn var_named(
     None
 }
 
-// The sort of variable v; 0 where there is none.
+// The sort of variable v; 0 where there is none, the definition's own number for that: sorts are numbered from 1 on.
 pub fn var_sort(vars: &[u32], v: usize) -> usize
-    requires { (length vars.now ≡ 4 * VARIABLES) × (v < VARIABLES) }
+    requires { VarAt vars.now v }
     ensures { result ≡ cell 4 vars.now v 0 }
 {
     vars[4 * v] as usize
 }
 
 // The row of variable v.
-pub fn put_var(vars: &mut [u32], v: usize, sort: usize, text: usize, start: usize, end: usize)
-    requires { (length vars.old ≡ 4 * VARIABLES) × (v < VARIABLES) × Fits4 sort text start end }
-    ensures { vars.new ≡ sets vars.old (4 * v) (sort ∷ text ∷ start ∷ end ∷ []) }
+pub fn put_var(
+    vars: &mut [u32],
+    v: usize,
+    sort: usize,
+    text: Option<Text>,
+    start: usize,
+    end: usize,
+)
+    requires { VarAt vars.old v × Fits4 sort start end 0 }
+    ensures { vars.new ≡ sets vars.old (4 * v) (sort ∷ text_cell text ∷ start ∷ end ∷ []) }
 {
     let at = 4 * v;
     vars[at] = sort as u32;
-    vars[at + 1] = text as u32;
+    vars[at + 1] = text_cell(text);
     vars[at + 2] = start as u32;
     vars[at + 3] = end as u32;
 }

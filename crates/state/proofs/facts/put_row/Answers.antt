@@ -20,5 +20,5 @@ pub bounds-facts-at-6 : goal.bounds-facts-at-6
 bounds-facts-at-6 c = simp length-set (omega arith)
 
 pub returns : goal.returns
-returns c = stores6 c.args.facts.now (6 * c.args.i) c.args.judgment c.args.assumed c.args.from c.args.hyps
-    c.args.premises c.args.general
+returns c = rw c.from.ensures (stores6 c.args.facts.now (6 * c.args.i) c.args.judgment _ c.args.from c.args.hyps
+    c.args.premises c.args.general)

@@ -1,3 +1,4 @@
+use mathlib.Core.Path.{sym, ◌∙◌}
 use Prim.Native.Nat.{◌+◌, ◌*◌}
 use native.Mathlib.Omega.{arith}
 use Rattle.state.proofs.Named.{var_row_in, var_order, in_goals, in_text, name_inside, name_is}
@@ -40,12 +41,12 @@ slice_bounds-same-start c = var_order c.requires.0.1
 pub slice_bounds-same-end : goal.slice_bounds-same-end
 slice_bounds-same-end c = name_inside (c.requires)
     c.args.goals.now
-    (in_goals c.args.goals.now c.args.text.now _ c.if-vars-at-eq2.true)
+    (in_goals c.args.goals.now c.args.text.now _ (c.if-vars-at.true ∙ c.text_cell.ensures))
 
-pub returns-then-vars-at-eq2 : goal.returns-then-vars-at-eq2
-returns-then-vars-at-eq2 c = name_is (c.requires)
+pub returns-then-vars-at : goal.returns-then-vars-at
+returns-then-vars-at c = name_is (c.requires)
     c.args.goals.now
-    (in_goals c.args.goals.now c.args.text.now _ c.if-vars-at-eq2.true)
+    (in_goals c.args.goals.now c.args.text.now _ (c.if-vars-at.true ∙ c.text_cell.ensures))
     c.args.name.now c.same.ensures
 
 pub slice_bounds-same-count-2 : goal.slice_bounds-same-count-2
@@ -61,10 +62,10 @@ slice_bounds-same-start-2 c = var_order c.requires.0.1
 pub slice_bounds-same-end-2 : goal.slice_bounds-same-end-2
 slice_bounds-same-end-2 c = name_inside (c.requires)
     c.args.text.now
-    (in_text c.args.goals.now c.args.text.now _ c.if-vars-at-eq2.false)
+    (in_text c.args.goals.now c.args.text.now _ (λ e. c.if-vars-at.false (e ∙ sym c.text_cell.ensures)))
 
 pub returns : goal.returns
 returns c = name_is (c.requires)
     c.args.text.now
-    (in_text c.args.goals.now c.args.text.now _ c.if-vars-at-eq2.false)
+    (in_text c.args.goals.now c.args.text.now _ (λ e. c.if-vars-at.false (e ∙ sym c.text_cell.ensures)))
     c.args.name.now c.same-2.ensures
