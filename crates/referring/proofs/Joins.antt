@@ -3,7 +3,7 @@
 use mathlib.Core.Path.{◌≡◌, refl, sym, ap, ◌∙◌}
 use mathlib.Core.Bool.{Bool, true, false, ◌||◌}
 use mathlib.Core.List.{List, ◌∷◌}
-use Prim.Native.Nat.{ℕ, ◌+◌, ◌-◌, ◌*◌, ◌<◌, ◌≤◌}
+use Prim.Native.Nat.{ℕ, ◌+◌, ◌*◌, ◌<◌, ◌≤◌}
 use native.Mathlib.Omega.{arith}
 use native.Mathlib.Numerals.{add-one}
 use lib.Dec.{eqb}
@@ -15,13 +15,13 @@ use Rattle.rules.specs.Laws.Theory.{all_at}
 use Rattle.rules.specs.Laws.Set.{union_empty}
 use Rattle.terms.specs.Sets.{holds, plus}
 use Rattle.terms.specs.Laws.Sets.{plus_has}
-use Rattle.cells.specs.declared.Span.{Span}
 use Rattle.state.specs.Held.{records}
 use Rattle.state.specs.Rows.{hyps_span}
-use Rattle.state.specs.FactLaws.{FactRow, fact_row_lem, lists_long}
+use Rattle.state.specs.Entries.{part}
+use Rattle.state.specs.FactLaws.{FactRow, fact_row_lem}
 use Rattle.referring.specs.Recall.{fact_of, RecallsFact}
 use Rattle.referring.specs.Referral.{rests_on}
-use Rattle.referring.specs.Laws.Refers.{fact_asks, footing_asks}
+use Rattle.referring.specs.Laws.Refers.{footing_asks}
 
 -- Numbers that join a set --------------------------------------------------------------------------------------------------------------------
 
@@ -65,9 +65,6 @@ module _ {facts footings lists : List ℕ} {i : ℕ} (g : RecallsFact facts foot
   abbrev row : FactRow (records facts footings lists) g.n g.trees g.S i (fact_of g.S i)
   row = fact_row_lem g.recorded i g.there
 
-  pub hyps_asks : (length facts ≡ 6 * FACTS) × (i < FACTS)
-  hyps_asks = fact_asks g.recorded g.there
-
   pub join_asks : (footing : List ℕ) → length footing ≡ RULEWORDS → (length footings ≡ 4 * FACTS) × (i < FACTS) × (length footing ≡ 4)
   join_asks footing e = let a = footing_asks g.recorded g.there in (a.0, a.1, e)
 
@@ -75,27 +72,20 @@ module _ {facts footings lists : List ℕ} {i : ℕ} (g : RecallsFact facts foot
       holds after ≡ union (holds before) (has (fact_of g.S i).footing)
   footing_joins before after e = e ∙ ap (λ (s : Set). union (holds before) s) row.footing
 
-  module _ {s : Span} (e : s ≡ hyps_span facts i) where
-    pub span_low : s.from ≤ s.end
-    span_low = omega (arith, ap (λ (z : Span). z.from) e, ap (λ (z : Span). z.end) e)
+  module _ {own : List ℕ} (e : own ≡ part lists (hyps_span facts i)) where
+    own_hyps : own ≡ (fact_of g.S i).hyps
+    own_hyps = e ∙ row.hyps
 
-    pub span_high : s.end ≤ length lists
-    span_high = omega (arith, ap (λ (z : Span). z.end) e, row.inside, lists_long g.recorded)
+    pub hyps_below : (hyps : List ℕ) → length hyps ≡ FACTWORDS → (k : ℕ) → k < length own → get_or own k 0 < 64 * length hyps
+    hyps_below hyps w k l =
+        let h : get_or (fact_of g.S i).hyps k 0 < g.n.facts = all_at (fact_of g.S i).hyps k 0 row.hyps_below (omega (arith, l, ap length own_hyps)) in
+        omega (arith, h, w, ap (λ (xs : List ℕ). get_or xs k 0) own_hyps, g.recorded.many, g.recorded.rows.row12)
 
-    span_hyps : take (s.end - s.from) (drop s.from lists) ≡ (fact_of g.S i).hyps
-    span_hyps = ap (λ (z : Span). take (z.end - z.from) (drop z.from lists)) e ∙ row.hyps
-
-    pub span_below : (hyps : List ℕ) → length hyps ≡ FACTWORDS → (k : ℕ) → k < length (take (s.end - s.from) (drop s.from lists)) →
-        get_or (take (s.end - s.from) (drop s.from lists)) k 0 < 64 * length hyps
-    span_below hyps w k l =
-        let h : get_or (fact_of g.S i).hyps k 0 < g.n.facts = all_at (fact_of g.S i).hyps k 0 row.hyps_below (omega (arith, l, ap length span_hyps)) in
-        omega (arith, h, w, ap (λ (xs : List ℕ). get_or xs k 0) span_hyps, g.recorded.many, g.recorded.rows.row12)
-
-    pub hyps_join : (before after : List ℕ) → holds after ≡ union (holds before) (has (take (s.end - s.from) (drop s.from lists))) → (bare : Bool) → bare ≡ true →
+    pub hyps_join : (before after : List ℕ) → holds after ≡ union (holds before) (has own) → (bare : Bool) → bare ≡ true →
         holds after ≡ union (holds before) (has (rests_on g.S i bare))
     unfolding rests_on
     hyps_join before after h bare b =
-        h ∙ ap (λ (xs : List ℕ). union (holds before) (has xs)) span_hyps ∙ ap (λ (z : Bool). union (holds before) (has (rests_on g.S i z))) (sym b)
+        h ∙ ap (λ (xs : List ℕ). union (holds before) (has xs)) own_hyps ∙ ap (λ (z : Bool). union (holds before) (has (rests_on g.S i z))) (sym b)
 
   pub none_join : (before : List ℕ) (bare : Bool) → bare ≡ false → holds before ≡ union (holds before) (has (rests_on g.S i bare))
   unfolding rests_on has

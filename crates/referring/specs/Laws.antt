@@ -6,4 +6,3 @@ pub mod ScopeFree
 pub mod Scoped
 pub mod Sounds
 pub mod Substitutes
-pub mod Variable

@@ -1,11 +1,11 @@
 -- The texts and tables from which the forms of facts are read, as they are lent: what they must say, and what is asked of the store and the sets beside
 -- them. Each is the relation of the same meaning over plain tables. Assumes nothing.
-use Rattle.std.specs.Prelude.{◌≡◌, List, ℕ, Result, replicate}
-use Rattle.rules.specs.Limits.{FACTWORDS, RULEWORDS}
+use Rattle.std.specs.Prelude.{◌≡◌, ◌≢◌, List, ℕ, ◌≤◌, ◌<◌, ◌⊎◌, Result, Ok, Err}
 use Rattle.rules.specs.Find.{Set}
 use Rattle.rules.specs.Sexp.{atom}
 use Rattle.rules.specs.Reference.{reference}
 use Rattle.questions.specs.declared.Question.{Question}
+use Rattle.questions.specs.declared.Question.TheVariants.{Earlier, CaseJudgment}
 use Rattle.kernel.specs.declared.rule_readers.Rules.{Rules}
 use Rattle.terms.specs.declared.store.Mark.{Mark}
 use Rattle.terms.specs.declared.store.Terms.{Terms}
@@ -14,12 +14,12 @@ use Rattle.terms.specs.Table.{made}
 use Rattle.terms.specs.Sets.{holds}
 use Rattle.terms.specs.Collect.{Seen}
 use Rattle.state.specs.Held.{Names, RuleLists, rule_lists}
+use Rattle.state.specs.Rows.{cell}
 use Rattle.state.specs.declared.board.Given.{Given}
 use Rattle.state.specs.declared.board.Board.{Board}
 use Rattle.reading.specs.Reader.{names_of, reader_of}
 use Rattle.referring.specs.declared.source.Facts.{Facts}
 use Rattle.referring.specs.declared.source.Source.{Source}
-use Rattle.referring.specs.declared.support.Support.{Support}
 use Rattle.referring.specs.declared.references.Referred.{Referred}
 use Rattle.referring.specs.Recall.{Recalls, BareItem, RefersItem, RefersItems, ReadableAll}
 use Rattle.referring.specs.Referral.{ReferredBy, Gathered}
@@ -45,9 +45,6 @@ source_names s = names_of s.reader
 
 abbrev pub rules_of : Source → Rules → RuleLists
 rules_of s p = rule_lists s.reader.theory.now p.rows.now p.vars.now p.patterns.now
-
-abbrev pub no_support : Support
-no_support = record { hyps = replicate FACTWORDS 0; footing = replicate RULEWORDS 0 }
 
 -- References -------------------------------------------------------------------------------------------------------------------------
 
@@ -75,6 +72,13 @@ ReadsForm s t cells least = FactForm (source_names s) s.rows.now s.footings.now 
 abbrev pub ReadsRuleForm : Source → Rules → Store → List ℕ → ℕ → Type 0
 ReadsRuleForm s p t cells least =
     RuleForm (source_names s) (rules_of s p) s.rows.now s.footings.now s.lists.now s.reader.n t.index.now t.words.now t.mark cells least
+
+-- Facts ------------------------------------------------------------------------------------------------------------------------------
+
+-- fact i is there, and its judgment is the term t
+abbrev pub ConcludesAs : Facts → ℕ → ℕ → Result (Unit {0}) Question → Type 0
+ConcludesAs f i t (Ok _) = (i < f.n.facts) × (cell 6 f.rows.now i 0 ≡ t)
+ConcludesAs f i t (Err q) = ((q ≡ Earlier) × (f.n.facts ≤ i)) ⊎ ((q ≡ CaseJudgment) × (i < f.n.facts) × (cell 6 f.rows.now i 0 ≢ t))
 
 -- Facts and terms --------------------------------------------------------------------------------------------------------------------
 

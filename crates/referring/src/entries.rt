@@ -1,14 +1,31 @@
-// The entries of a fact in the lists, as they stand there.
-ghost use Rattle.std.specs.Prelude.{◌≡◌, List, ℕ};
+// What a fact concludes, and its entries in the lists as they stand there.
+ghost use Rattle.std.specs.Prelude.{◌≡◌, List, ℕ, ◌*◌, ◌≤◌, length};
+ghost use Rattle.rules.specs.Limits.{FACTS};
 ghost use Rattle.state.specs.Rows.{hyps_span, premises_span, general_span};
 ghost use Rattle.state.specs.Entries.{part};
 ghost use Rattle.referring.specs.Recall.{RecallsFact};
+ghost use Rattle.referring.specs.Sources.{ConcludesAs};
 
 use crate::source::Facts;
 use cells::Span;
-use state::facts::{general, hyps, premises};
+use questions::Question;
+use state::facts::{general, hyps, is_fact, judgment, premises};
 
 impl<'a> Facts<'a> {
+    // Whether fact i is there (question 34) and concludes the term t (question 43).
+    pub fn concludes(&self, i: usize, t: usize) -> Result<(), Question>
+        requires { (length self.now.rows.now ≡ 6 * FACTS) × (self.now.n.facts ≤ FACTS) }
+        ensures { ConcludesAs self.now i t result }
+    {
+        if !is_fact(self.n, i) {
+            return Err(Question::Earlier);
+        }
+        if judgment(self.rows, i) != t {
+            return Err(Question::CaseJudgment);
+        }
+        Ok(())
+    }
+
     // The hypotheses of fact i.
     pub fn hyps(&self, i: usize) -> &'a [u32]
         requires { (footings : List ℕ) × RecallsFact self.now.rows.now footings self.now.lists.now i }

@@ -60,7 +60,7 @@ impl Source<'_> {
             ReferredAs store.old store.new g.S (instance g.S g.xs (made_of store.old)) result }
         ensures memo_unchanged { memo.new ≡ memo.old }
     {
-        if cells.len() == 0 {
+        if cells.is_empty() {
             return Err(Question::Earlier);
         }
         let Some(i) = index_in(self.reader.text, cells) else {
@@ -69,6 +69,7 @@ impl Source<'_> {
         if !is_fact(self.reader.n, i) {
             return Err(Question::Earlier);
         }
+        // Its row says whether there are any; of the entries themselves, which `Facts::hyps` would lend, nothing is asked here.
         let own = hyps_of(self.rows, i);
         if own.from != own.end {
             return Err(Question::Instance);

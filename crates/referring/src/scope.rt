@@ -16,7 +16,7 @@ ghost use Rattle.referring.specs.Sources.{RecallsIn, ReadableIn, ReadableCellsIn
 use crate::references::insert_all;
 use crate::source::Facts;
 use rules::{FACTS, TERMWORDS, VARIABLEWORDS};
-use state::facts::{general, judgment, premises};
+use state::facts::judgment;
 use terms::sets::{count, lowest_outside, minus_from, union_into, write_out};
 use terms::store::Terms;
 use terms::variables::visit;
@@ -40,10 +40,7 @@ impl Facts<'_> {
         ensures { (g : RecallsIn self.now terms.now) → GatheredIn terms.now (mentioned (fact_of g.S i)) set.old seen.new set.new }
     {
         visit(terms, judgment(self.rows, i), seen, set);
-        let own = premises(self.rows, i);
-        let from = own.from;
-        let end = own.end;
-        visit_all(terms, &self.lists[from..end], seen, set);
+        visit_all(terms, self.premises(i), seen, set);
     }
 
     // The variables that a hypothesis does not generalise join the set.
@@ -55,10 +52,7 @@ impl Facts<'_> {
         let mut all = [0u64; VARIABLEWORDS];
         let mut bound = [0u64; VARIABLEWORDS];
         self.mention(terms, i, &mut seen, &mut all);
-        let own = general(self.rows, i);
-        let from = own.from;
-        let end = own.end;
-        insert_all(&self.lists[from..end], &mut bound);
+        insert_all(self.general(i), &mut bound);
         minus_from(&mut all, &bound);
         union_into(set, &all);
     }
@@ -69,8 +63,7 @@ impl Facts<'_> {
         requires seen { SeenIn terms.now seen.old set.old }
         ensures { (g : RecallsIn self.now terms.now) → GatheredIn terms.now (free (fact_of g.S i)) set.old seen.new set.new }
     {
-        let own = general(self.rows, i);
-        if own.from == own.end {
+        if self.general(i).is_empty() {
             self.mention(terms, i, seen, set);
             return;
         }

@@ -15,7 +15,8 @@ pub struct Facts<'a> {
     pub n: Sizes,
 }
 
-// The same tables beside those in which names are looked up.
+// The same tables beside those in which names are looked up. They stand one by one: `Facts` in their place would hold the counts `n` a second time,
+// beside the reader's, and every contract would have to say that they are the same.
 #[derive(Clone, Copy)]
 pub struct Source<'a> {
     pub reader: Reader<'a>,

@@ -1,5 +1,5 @@
 -- One fact, as `mention` reads it: its judgment and its premises. Assumes nothing.
-use Rattle.std.specs.Prelude.{◌≡◌, List, ℕ, ◌*◌, ◌≤◌, ◌<◌, length, get_or}
+use Rattle.std.specs.Prelude.{◌≡◌, List, ℕ, ◌*◌, ◌<◌, length, get_or}
 use Rattle.std.proofs.Common.{sym, ◌∙◌, subst, arith}
 use Rattle.std.proofs.Math.Path.{ap}
 use Rattle.rules.specs.Limits.{FACTS, ENTRIES, TERMWORDS, VARIABLEWORDS}
@@ -14,13 +14,12 @@ use Rattle.terms.specs.Table.{args_of, made, tree}
 use Rattle.terms.specs.Collect.{Readable, Visited}
 use Rattle.terms.specs.Laws.Growth.{made_length}
 use Rattle.state.specs.declared.sizes.Sizes.{Sizes}
-use Rattle.cells.specs.declared.Span.{Span}
 use Rattle.state.specs.Held.{records}
 use Rattle.state.specs.Rows.{cell, premises_span}
 use Rattle.state.specs.RowTables.{tabled_long}
 use Rattle.state.specs.Entries.{part}
 use Rattle.state.specs.FactLaws.{FactRow, fact_row_lem, facts_tabled, lists_long}
-use Rattle.referring.specs.Recall.{fact_of, Recalls, ReadableAll}
+use Rattle.referring.specs.Recall.{fact_of, Recalls, RecallsFact, ReadableAll}
 use Rattle.referring.specs.Referral.{Gathered}
 
 module _ {facts lists : List ℕ} {n : Sizes} {I W : List ℕ} {m : Mark} (g : Recalls facts lists n I W m) {i : ℕ} (l : i < n.facts) where
@@ -38,32 +37,30 @@ module _ {facts lists : List ℕ} {n : Sizes} {I W : List ℕ} {m : Mark} (g : R
   judgment_ready e p q =
       record { good = g.good; there = omega (arith, row.judgment.below, made_length I W m); wide = omega arith; broad = omega arith }
 
-  module _ {s : Span} (e : s ≡ premises_span facts i) where
-    pub premises_order : s.from ≤ s.end
-    premises_order = omega (arith, ap (λ (t : Span). t.from) e, ap (λ (t : Span). t.end) e)
+  -- what the readers of its entries ask
+  pub recalls_fact : (footings : List ℕ) × RecallsFact facts footings lists i
+  recalls_fact = (g.footings, record { S = g.S; n = n; trees = made I W m; recorded = g.recorded; there = l })
 
-    pub premises_end : s.end ≤ length lists
-    premises_end = omega (arith, ap (λ (t : Span). t.end) e, row.inside, lists_are)
+  module _ {own : List ℕ} (e : own ≡ part lists (premises_span facts i)) where
+    are : own ≡ numbers (made I W m) (fact_of g.S i).premises
+    are = e ∙ row.premises
 
-    are : part lists s ≡ numbers (made I W m) (fact_of g.S i).premises
-    are = ap (part lists) e ∙ row.premises
-
-    pub premises_ready : {seen set : List ℕ} → length seen ≡ TERMWORDS → length set ≡ VARIABLEWORDS → ReadableAll I W m (part lists s) seen set
+    pub premises_ready : {seen set : List ℕ} → length seen ≡ TERMWORDS → length set ≡ VARIABLEWORDS → ReadableAll I W m own seen set
     premises_ready p q =
         record {
           good = g.good;
-          there = λ k h. subst (λ (b : ℕ). get_or (part lists s) k 0 < b) (made_length I W m)
-              (all_at (part lists s) k 0 (subst (All (λ x. x < length (made I W m))) (sym are) row.numbered.below) h);
+          there = λ k h. subst (λ (b : ℕ). get_or own k 0 < b) (made_length I W m)
+              (all_at own k 0 (subst (All (λ x. x < length (made I W m))) (sym are) row.numbered.below) h);
           wide = p;
           broad = q;
         }
 
     pub mention_done : {j : ℕ} {a seen b seen₁ seen₂ c : Set} → j ≡ cell 6 facts i 0 → Visited I W m j seen a seen₁ b
-        → Gathered I W m (variables_of (args_of (made I W m) (part lists s))) b seen₂ c → Gathered I W m (mentioned (fact_of g.S i)) a seen₂ c
+        → Gathered I W m (variables_of (args_of (made I W m) own)) b seen₂ c → Gathered I W m (mentioned (fact_of g.S i)) a seen₂ c
     unfolding mentioned
     mention_done {j} {a} f v w =
         let t : tree I W m j ≡ (fact_of g.S i).judgment = ap (tree I W m) f ∙ row.judgment.tree in
-        let ts : args_of (made I W m) (part lists s) ≡ (fact_of g.S i).premises = ap (args_of (made I W m)) are ∙ row.numbered.trees in
+        let ts : args_of (made I W m) own ≡ (fact_of g.S i).premises = ap (args_of (made I W m)) are ∙ row.numbered.trees in
         record {
           set = w.set ∙ (λ k. union (v.set k) (variables_of (ts k))) ∙ ap (λ (u : Tree). union (union a (variables u)) (variables_of (fact_of g.S i).premises)) t
               ∙ union_assoc a (variables (fact_of g.S i).judgment) (variables_of (fact_of g.S i).premises);
