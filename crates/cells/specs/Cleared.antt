@@ -1,0 +1,10 @@
+-- A table whose first cells are cleared as a part of it. Assumes nothing.
+use Rattle.std.proofs.Common.{◌≡◌, ap, ◌∙◌, ℕ, ◌≤◌, List, ◌++◌, length, take, drop, replicate, arith, length-append, length-drop, length-take-le}
+use Rattle.std.proofs.lemmas.List.{length-replicate}
+
+module _ {A : Type 0} (z : A) (n : ℕ) (w : List A) {front : List A} (h : n ≤ length w) (e : front ≡ replicate (length (take n w)) z) where
+  pub front_cleared : front ++ drop n w ≡ replicate n z ++ drop n w
+  front_cleared = ap (λ (l : List A). l ++ drop n w) (e ∙ ap (λ (k : ℕ). replicate k z) (length-take-le n w h))
+
+  pub front_length : length (front ++ drop n w) ≡ length w
+  front_length = ap length front_cleared ∙ omega (arith, h, length-append (replicate n z) (drop n w), length-replicate n z, length-drop n w)
