@@ -5,10 +5,11 @@ use Prim.Native.Nat.{ℕ, ◌+◌, ◌*◌, ◌-◌, ◌%◌, ◌≤◌, ◌<◌
 use mathlib.Core.List.{List, ◌++◌}
 use native.Mathlib.Omega.{arith}
 use lib.Dec.{eqb}
-use lib.ListN.{length, get_or, drop, replicate, length-append, length-replicate}
+use lib.ListN.{length, get_or, take, drop, replicate, length-append, length-replicate}
 use borrow.Author.Tests.{eq-eqb, ne_eqb}
 use Rattle.rules.specs.Limits.{LENGTH}
 use Rattle.rules.specs.Sexp.{Sexp, Sexps, atom, list, Text, ends, fails, more, read, read_from}
+use Rattle.cells.specs.Cleared.{front_cleared}
 use Rattle.sexp.specs.Encode.{encode, encodes}
 use Rattle.sexp.specs.ItemLaws.{some_cells}
 use Rattle.sexp.specs.Reads.{Clear, ReadRight}
@@ -107,26 +108,29 @@ module _ {text w₀ w : List ℕ} {at n : ℕ} (t : Turning text w₀ w at n) wh
       whole_atom (list xs) b = let z = first_list xs (replicate (length w - f.cells) 0) in cc
 
       -- on from a list, and from an atom
-      module _ {u : List ℕ} (c : u ≡ replicate f.cells 0 ++ drop f.cells v) where
-        pub past_list : eqb (get_or v 0 0 % 2) 0 ≡ true → Turning text w₀ u f.end (n + 1)
+      module _ {front : List ℕ} (c : front ≡ replicate (length (take f.cells v)) 0) where
+        cleared : front ++ drop f.cells v ≡ w₀
+        cleared = back (form_cleared here _ (front_cleared 0 f.cells v cells_there.1 c))
+
+        pub past_list : eqb (get_or v 0 0 % 2) 0 ≡ true → Turning text w₀ (front ++ drop f.cells v) f.end (n + 1)
         past_list b =
             record {
               short = t.short;
               room = t.room;
               clear = t.clear;
-              cells = back (form_cleared here u c);
+              cells = cleared;
               high = here.within;
               few = omega (arith, t.few, here.on);
               same = t.same ∙ ap (λ y. forms_of y n) here.reads ∙ whole_list here.form (rw here.cells at b);
             }
 
-        pub past_atom : eqb (get_or v 0 0 % 2) 0 ≡ false → Turning text w₀ u f.end n
+        pub past_atom : eqb (get_or v 0 0 % 2) 0 ≡ false → Turning text w₀ (front ++ drop f.cells v) f.end n
         past_atom b =
             record {
               short = t.short;
               room = t.room;
               clear = t.clear;
-              cells = back (form_cleared here u c);
+              cells = cleared;
               high = here.within;
               few = omega (arith, t.few, here.on);
               same = t.same ∙ ap (λ y. forms_of y n) here.reads ∙ whole_atom here.form (rw here.cells at b);

@@ -9,10 +9,11 @@ ghost use Rattle.kernel.specs.Parsed.{theory_lists, Roomy, theory_of, verdict, l
 ghost use Rattle.sexp.specs.Through.{Legible};
 ghost use Rattle.exports.specs.Counts.{forms_of, rules_of};
 
+use cells::clear;
 use kernel::parse::parse;
 use kernel::tables::{Counts, Tables};
 use rules::RULES;
-use sexp::sexp::{clear, read_all, read_form};
+use sexp::sexp::{read_all, read_form};
 
 // The number of a text's bracketed forms before its end or a refusal, by its tokens alone.
 #[unsafe(no_mangle)]
@@ -52,7 +53,7 @@ pub extern "C" fn tariff_read(text: &[u8], words: &mut [u32]) -> usize
         if bracketed(words) {
             forms += 1;
         }
-        clear(words, form.cells);
+        clear(&mut words[..form.cells]);
         at = form.end;
     }
 }

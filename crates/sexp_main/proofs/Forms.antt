@@ -2,6 +2,7 @@
 use Rattle.std.proofs.Common.{◌≡◌, ℕ, ◌≤◌, List, ◌++◌, sym, ap, ◌∙◌, length, take, drop, replicate, arith, Option, Some, Result, Ok}
 use Rattle.rules.specs.Limits.{LENGTH}
 use Rattle.rules.specs.Sexp.{cons, nil}
+use Rattle.cells.specs.Cleared.{front_cleared, front_length}
 use Rattle.sexp.specs.Items.{Held}
 use Rattle.sexp.specs.Reads.{Clear, ReadRight}
 use Rattle.sexp.specs.ReadLaws.{FormIs, at_form, form_cleared}
@@ -24,12 +25,14 @@ module _ {text w₀ w : List ℕ} {at : ℕ} (s : Forms text w₀ w at) where
     pub held : ∥ Held text (take f.cells v) ∥₁
     held = ∣ (cons form.form nil, form.holds) ∣₁
 
-    pub next : {u : List ℕ} → length u ≡ length v → length v ≡ length w → u ≡ replicate f.cells 0 ++ drop f.cells v → Forms text w₀ u f.end
-    next {u} a b c =
+    pub next : {front : List ℕ} → length v ≡ length w → front ≡ replicate (length (take f.cells v)) 0 → Forms text w₀ (front ++ drop f.cells v) f.end
+    next {front} b c =
+        let h : f.cells ≤ length v = omega (arith, form.room, b) in
+        let size : length (front ++ drop f.cells v) ≡ length w = front_length 0 f.cells v h c ∙ b in
         record {
           short = s.short;
           room = s.room;
-          size = a ∙ b ∙ s.size;
-          clear = form_cleared form u c ∙ ap (λ m. replicate m 0) (sym (a ∙ b));
+          size = size ∙ s.size;
+          clear = form_cleared form _ (front_cleared 0 f.cells v h c) ∙ ap (λ m. replicate m 0) (sym size);
           high = form.within;
         }

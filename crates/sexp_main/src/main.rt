@@ -8,7 +8,8 @@ ghost use Rattle.rules.specs.Limits.{LENGTH};
 ghost use Rattle.sexp.specs.Reads.{Clear};
 
 use crate::items::{Items, Part};
-use sexp::sexp::{clear, read_form};
+use cells::clear;
+use sexp::sexp::read_form;
 use std::io::{self, BufWriter, Read, Write};
 
 // How much of the input is read.
@@ -50,7 +51,7 @@ fn show_all<W: Write>(out: &mut W, text: &[u8], words: &mut [u32]) -> io::Result
                     },
                 )?;
                 writeln!(out)?;
-                clear(words, form.cells);
+                clear(&mut words[..form.cells]);
                 at = form.end;
             }
             Ok(None) => return Ok(()),

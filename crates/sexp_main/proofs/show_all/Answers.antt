@@ -12,4 +12,4 @@ pub loop-form-preserved : goal.loop-form-preserved
 loop-form-preserved g c =
     let form = c.in-Ok-Some.form in
     let read : c.read_form.result ≡ Ok (Some form) = cc in
-    forms.next c.loop-form.invariant c.read_form.ensures read c.clear.auto.words c.read_form.auto.words c.clear.ensures
+    forms.next c.loop-form.invariant c.read_form.ensures read c.read_form.auto.words c.clear.ensures
