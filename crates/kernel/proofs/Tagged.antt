@@ -125,43 +125,16 @@ declare_list xs T = go (item xs 0)
 
 -- The answers of `tag_of` ----------------------------------------------------------------------------------------------------------
 
-untagged : (xs : Sexps) → item xs 0 ≡ list nil → nothing ≡ declaration_answer (tagged xs)
-unfolding headed
-untagged xs e = sym (ap (λ x. declaration_answer (headed x (count xs))) e)
-
-pub tag_nil : {text words : List ℕ} (xs : Sexps) → Holds text words xs → length words ≡ 0 → nothing ≡ declaration_answer (tagged xs)
-unfolding item
-tag_nil xs h e = untagged xs (ap (λ ys. item ys 0) (walk_over (walk_start h) (omega (arith, e))))
-
-module _ {text words : List ℕ} (xs : Sexps) (h : Holds text words xs) (n : length words ≡ 0 → ⊥) {r : Item} (e : r ≡ item_at words 0) where
-  pub some_item : More xs
-  some_item = walk_more (walk_start h) (omega (arith, n))
-
-  pub first_here : Walk text words 0 (cons some_item.first some_item.others)
-  first_here = rw some_item.is at (walk_start h)
-
-  first_is : item xs 0 ≡ some_item.first
-  unfolding item
-  first_is = ap (λ ys. item ys 0) some_item.is
-
-  pub tag_list : {a b : ℕ} → r ≡ Part a b → nothing ≡ declaration_answer (tagged xs)
+module _ (xs : Sexps) where
+  pub tag_none : {ys : Sexps} → item xs 0 ≡ list ys → nothing ≡ declaration_answer (tagged xs)
   unfolding headed
-  tag_list f = sym (ap (λ x. declaration_answer (headed x (count xs))) (first_is ∙ (walk_list first_here e f).is))
+  tag_none e = sym (ap (λ x. declaration_answer (headed x (count xs))) e)
 
-  module _ {p : ℕ} (f : r ≡ Atom p) where
-    pub tag_start : p ≤ length text
-    tag_start = omega (arith, (walk_atom first_here e f).stands.inside)
-
-    module _ {q : ℕ} (g : q ≡ p + length (letters (drop p text))) where
-      pub tag_span : Span text p q (walk_atom first_here e f).bytes
-      tag_span = span (walk_atom first_here e f).stands g
-
-      pub tag_found : {k : ℕ} → k ≡ count xs → declaration_answer (declaration (take (q - p) (drop p text)) k) ≡ declaration_answer (tagged xs)
-      unfolding headed
-      tag_found {k} c =
-          ap (λ l. declaration_answer (declaration l k)) tag_span.part
-          ∙ ap (λ m. declaration_answer (declaration (walk_atom first_here e f).bytes m)) c
-          ∙ sym (ap (λ x. declaration_answer (headed x (count xs))) (first_is ∙ (walk_atom first_here e f).is))
+  pub tag_found : {p : ℕ} {name : List ℕ} {k : ℕ} → item xs 0 ≡ atom p name → k ≡ count xs →
+      declaration_answer (declaration name k) ≡ declaration_answer (tagged xs)
+  unfolding headed
+  tag_found {name = name} e c =
+      ap (λ m. declaration_answer (declaration name m)) c ∙ sym (ap (λ x. declaration_answer (headed x (count xs))) e)
 
 -- The answers of `declare_items` ---------------------------------------------------------------------------------------------------
 

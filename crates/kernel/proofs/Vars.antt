@@ -134,18 +134,18 @@ module _ (sort : ℕ) {text table : List ℕ} {count start end : ℕ} (R : Readi
     inside : i < count
     inside = var_inside h (take (end - start) (drop start text)) r i a b
 
-    pub met_again : eqb (get_or table (3 * i) 0) sort ≡ true → Met text table R (met_or_new n sort (var_named R.vars n.bytes) R) i count
+    pub met_again : get_or table (3 * i) 0 ≡ sort → Met text table R (met_or_new n sort (var_named R.vars n.bytes) R) i count
     met_again e =
         record {
           now = R;
-          is = so ∙ met_same R n sort i (sym (var_sort_lem h i inside) ∙ eqb-true (get_or table (3 * i) 0) sort e);
+          is = so ∙ met_same R n sort i (sym (var_sort_lem h i inside) ∙ e);
           words = refl;
           held = h;
           small = omega (arith, inside, vars_few h);
         }
 
-    pub met_wrongly : eqb (get_or table (3 * i) 0) sort ≡ false → met_or_new n sort (var_named R.vars n.bytes) R ≡ refuse 12 0 R
-    met_wrongly e = so ∙ met_other R n sort i (λ f. eqb-false (get_or table (3 * i) 0) sort e (var_sort_lem h i inside ∙ f))
+    pub met_wrongly : (get_or table (3 * i) 0 ≡ sort → ⊥) → met_or_new n sort (var_named R.vars n.bytes) R ≡ refuse 12 0 R
+    met_wrongly e = so ∙ met_other R n sort i (λ f. e (var_sort_lem h i inside ∙ f))
 
   module _ (b : r ≡ nothing) where
     none_so : met_or_new n sort (var_named R.vars n.bytes) R ≡ met_or_new n sort nothing R

@@ -131,13 +131,13 @@ module _ (text : List ℕ) (start end sort arity : ℕ) (e : end ≡ start + len
     unfolding inputs
     arity_is = ((symbols_rows h).row c declared).arity
 
-    pub head_wrong_sort : {P : List ℕ} {used : ℕ} → eqb (get_or symbols (4 * c) 0) sort ≡ false → Stopped P P used (head T sort arity (letters (drop start text)) R) 12 0
+    pub head_wrong_sort : {P : List ℕ} {used : ℕ} → (get_or symbols (4 * c) 0 ≡ sort → ⊥) → Stopped P P used (head T sort arity (letters (drop start text)) R) 12 0
     head_wrong_sort f =
-        record { now = R; is = head_sort R T sort arity (letters (drop start text)) c known_so (λ z. eqb-false (get_or symbols (4 * c) 0) sort f (output_is ∙ z)); words = refl; long = refl }
+        record { now = R; is = head_sort R T sort arity (letters (drop start text)) c known_so (λ z. f (output_is ∙ z)); words = refl; long = refl }
 
-    module _ (f : eqb (get_or symbols (4 * c) 0) sort ≡ true) where
+    module _ (f : get_or symbols (4 * c) 0 ≡ sort) where
       sort_so : output T c ≡ sort
-      sort_so = sym output_is ∙ eqb-true (get_or symbols (4 * c) 0) sort f
+      sort_so = sym output_is ∙ f
 
       pub head_wrong_count : {P : List ℕ} {used : ℕ} → (get_or symbols (4 * c + 1) 0 ≡ arity → ⊥) → Stopped P P used (head T sort arity (letters (drop start text)) R) 12 0
       head_wrong_count g =

@@ -14,23 +14,17 @@ use crate::signatures::{add_ctor, add_pred};
 use crate::symbols::add_sort;
 use crate::tables::{Counts, Tables};
 use questions::Question;
+use sexp::items;
 use sexp::items::Item;
 use sexp::tags::{Declaration, theory_tag};
-use sexp::{items, lex};
 
 // The tag of a form, by its items.
 fn tag_of(text: &[u8], items: &[u32]) -> Option<Declaration>
     requires { Held text.now items.now }
     ensures { (xs : Sexps) → Holds text.now items.now xs → result ≡ declaration_answer (tagged xs) }
 {
-    if items.is_empty() {
-        return None;
-    }
-    let Item::Atom(start) = items::item_at(items, 0) else {
-        return None;
-    };
-    let end = lex::atom_end(text, start);
-    theory_tag(&text[start..end], items::count(items))
+    let name = items::head(text, items)?;
+    theory_tag(name, items::count(items))
 }
 
 // A rule, as its items declare it.

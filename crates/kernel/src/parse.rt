@@ -11,7 +11,7 @@ ghost use Rattle.sexp.specs.Through.{Legible};
 use crate::declare::declare;
 use crate::tables::{Counts, Tables};
 use questions::Refused;
-use sexp::sexp::{clear, read_all, read_form};
+use sexp::sexp::{read_all, read_form};
 
 // The declarations of a text, form by form, into tables of exactly the named lengths, of which nothing is used.
 fn declarations(text: &[u8], cells: &mut [u32], tables: &mut Tables<'_>) -> Result<usize, Refused>
@@ -30,7 +30,7 @@ fn declarations(text: &[u8], cells: &mut [u32], tables: &mut Tables<'_>) -> Resu
             Ok(None) => return Ok(forms),
             Ok(Some(form)) => {
                 let declared = declare(text, &cells[..form.cells], tables);
-                clear(cells, form.cells);
+                cells::clear(&mut cells[..form.cells]);
                 if let Err(question) = declared {
                     return Err(Refused {
                         question,

@@ -14,7 +14,6 @@ ghost use Rattle.sexp.specs.NameRows.{NameRows, SomeNames};
 
 use crate::atoms::{marked, put_name};
 use crate::names::{Kind, SymbolTable};
-use crate::readers::same_sort;
 use questions::{Question, Row};
 use sexp::lex;
 use sexp::names::named;
@@ -68,7 +67,7 @@ impl RuleReader<'_, '_> {
         let count = self.count;
         if let Some(i) = self.numbered(&text[start..end]) {
             let had = self.vars[3 * i] as usize;
-            if same_sort(had, sort) {
+            if had == sort {
                 return Ok(i);
             }
             return Err(Question::Signature);
@@ -122,7 +121,7 @@ impl RuleReader<'_, '_> {
         };
         let at = 4 * c;
         let output = known.rows[at] as usize;
-        if !same_sort(output, sort) {
+        if output != sort {
             return Err(Question::Signature);
         }
         let many = known.rows[at + 1] as usize;

@@ -1,19 +1,12 @@
-// Reading the tables of sorts and symbols: whether two sorts are the same, a symbol's signature by its number, numbers by name, and the
-// constructors of a sort one after the other, or how many.
-ghost use Rattle.std.specs.Prelude.{◌≡◌, ℕ, ◌<◌, List, eqb, length, get_or};
+// Reading the tables of sorts and symbols: a symbol's signature by its number, a sort's number by its name, and the constructors of a sort
+// one after the other, or how many.
+ghost use Rattle.std.specs.Prelude.{◌≡◌, ℕ, ◌<◌, List, length, get_or};
 ghost use Rattle.rules.specs.Theory.{Theory, inputs as inputs_of, output as output_of, constructors as constructors_of, sort_named};
 ghost use Rattle.kernel.specs.Held.{SortsHeld, SomeSorts, SymbolsHeld};
 ghost use Rattle.kernel.specs.Readers.{KnownSymbol, KnownInput, CountedSymbols};
 ghost use Rattle.kernel.specs.Listing.{next_constructor};
 
 use sexp::names::named;
-
-// Whether two sorts are the same.
-pub fn same_sort(a: usize, b: usize) -> bool
-    ensures { result ≡ eqb a b }
-{
-    a == b
-}
 
 // How many arguments symbol c takes.
 pub fn arity(symbols: &[u32], c: usize) -> usize
@@ -24,7 +17,8 @@ pub fn arity(symbols: &[u32], c: usize) -> usize
     symbols[4 * c + 1] as usize
 }
 
-// The sort of the terms of constructor c; 0 where c is a predicate.
+// The sort of the terms of constructor c; 0 where c is a predicate. No `Option`: 0 is the definition's own number for no sort (they begin at 1),
+// and who asks compares it with a sort.
 pub fn output(symbols: &[u32], c: usize) -> usize
     requires { KnownSymbol symbols.now c }
     ensures { (T : Theory) (text inputs : List ℕ) (count : ℕ) → SymbolsHeld text symbols.now inputs count T.symbols → c < count →
@@ -58,7 +52,7 @@ pub fn next_constructor(symbols: &[u32], count: usize, sort: usize, from: usize)
         result ≡ next_constructor T sort from }
 {
     for i in from..count {
-        if same_sort(output(symbols, i), sort) {
+        if output(symbols, i) == sort {
             return Some(i);
         }
     }
@@ -73,7 +67,7 @@ pub fn constructors(symbols: &[u32], count: usize, sort: usize) -> usize
 {
     let mut n = 0;
     for c in 0..count {
-        if same_sort(output(symbols, c), sort) {
+        if output(symbols, c) == sort {
             n += 1;
         }
     }

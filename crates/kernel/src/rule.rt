@@ -11,7 +11,6 @@ ghost use Rattle.kernel.specs.HeldRules.{schema_cells, Beginning, BeginningAt, S
 use crate::atoms::put_name;
 use crate::names::SymbolTable;
 use crate::patterns::RuleReader;
-use crate::signatures::put_row;
 use crate::symbols::proper_at;
 use crate::tables::Counts;
 use questions::{Question, Row};
@@ -73,7 +72,7 @@ fn read_rule(
     })
 }
 
-// The number of premises of a rule that was read.
+// The number of premises of a rule that was read; it has a list of them, so that the 0 for none is never stored.
 fn premise_count(form: &[u32]) -> usize
     requires { SomeForm form.now }
     ensures { (text : List ℕ) (xs ys : Sexps) → Holds text form.now xs → 4 ≡ items xs → item xs 2 ≡ list ys → result ≡ items ys }
@@ -117,7 +116,7 @@ fn store(
     rules[at + 3] = row.premises as u32;
     rules[at + 4] = row.first as u32;
     rules[at + 5] = row.last as u32;
-    put_row(vars, 3 * rules::RULEVARS * count, names);
+    cells::write(&mut vars[3 * rules::RULEVARS * count..], names);
     Ok(())
 }
 

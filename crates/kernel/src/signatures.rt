@@ -66,14 +66,6 @@ fn arguments_at(
     argument_sorts(text, &form[a..b], sorts, known, row, 0)
 }
 
-// Copies a row into a table.
-pub fn put_row(table: &mut [u32], at: usize, row: &[u32])
-    requires { at + length row.now ≤ length table.old }
-    ensures { table.new ≡ paste table.old at row.now (length row.now) }
-{
-    cells::write(&mut table[at..], row);
-}
-
 // Stores a symbol, if there is room.
 fn store(
     tables: &mut Tables<'_>,
@@ -95,7 +87,7 @@ fn store(
     tables.symbols[at] = output as u32;
     tables.symbols[at + 1] = arity as u32;
     put_name(tables.symbols, at + 2, name.from, name.end);
-    put_row(tables.inputs, rules::ARGUMENTS * count, row);
+    cells::write(&mut tables.inputs[rules::ARGUMENTS * count..], row);
     tables.held.symbols = count + 1;
     Ok(())
 }

@@ -35,14 +35,6 @@ pub struct Tables<'a> {
     pub held: Counts,
 }
 
-// Sets the cells from a place on to zero.
-fn wipe(table: &mut [u32], from: usize)
-    requires { from ≤ length table.old }
-    ensures { table.new ≡ zero_from from table.old }
-{
-    cells::clear(&mut table[from..]);
-}
-
 impl Tables<'_> {
     // The symbols, with names in that text, to be read.
     pub fn known<'t>(&'t self, text: &'t [u8]) -> SymbolTable<'t>
@@ -64,11 +56,11 @@ impl Tables<'_> {
         ensures wiped { lists_of self.new ≡ wiped (lists_of self.old) self.old.held }
     {
         let held = self.held;
-        wipe(self.sorts, 2 * held.sorts);
-        wipe(self.symbols, 4 * held.symbols);
-        wipe(self.inputs, rules::ARGUMENTS * held.symbols);
-        wipe(self.rules, 6 * held.rules);
-        wipe(self.vars, 3 * rules::RULEVARS * held.rules);
-        wipe(self.patterns, held.words);
+        cells::clear(&mut self.sorts[2 * held.sorts..]);
+        cells::clear(&mut self.symbols[4 * held.symbols..]);
+        cells::clear(&mut self.inputs[rules::ARGUMENTS * held.symbols..]);
+        cells::clear(&mut self.rules[6 * held.rules..]);
+        cells::clear(&mut self.vars[3 * rules::RULEVARS * held.rules..]);
+        cells::clear(&mut self.patterns[held.words..]);
     }
 }

@@ -1,8 +1,6 @@
-use mathlib.Core.Path.{sym, ◌∙◌}
-use borrow.Author.Tests.{eqb-true, eqb-false}
 use Rattle.kernel.proofs.Readings.{counting_start, counting_known, counting_in, counting_out, counting_over}
 use Rattle.kernel.proofs.readers.constructors.Goals as goal
-use Rattle.kernel.proofs.readers.constructors.Goals.{then-same_sort, else-same_sort}
+use Rattle.kernel.proofs.readers.constructors.Goals.{then-output-sort, else-output-sort}
 
 pub loop-c-init : goal.loop-c-init
 loop-c-init c = counting_start _ _ _ c.requires
@@ -11,9 +9,9 @@ pub output-requires : goal.output-requires
 output-requires c = counting_known c.loop-c.invariant c.loop-c-test.true
 
 pub loop-c-preserved : goal.loop-c-preserved
-loop-c-preserved c = elim c.if-same_sort.branch [
-  | then-same_sort w ↦ rw w.n-is (counting_in c.loop-c.invariant c.loop-c-test.true _ c.output.ensures (eqb-true _ _ (sym c.same_sort.ensures ∙ w.if-same_sort.true)))
-  | else-same_sort w ↦ rw w.n-is (counting_out c.loop-c.invariant c.loop-c-test.true _ c.output.ensures (eqb-false _ _ (sym c.same_sort.ensures ∙ w.if-same_sort.false)))
+loop-c-preserved c = elim c.if-output-sort.branch [
+  | then-output-sort w ↦ rw w.n-is (counting_in c.loop-c.invariant c.loop-c-test.true _ c.output.ensures w.if-output-sort.true)
+  | else-output-sort w ↦ rw w.n-is (counting_out c.loop-c.invariant c.loop-c-test.true _ c.output.ensures w.if-output-sort.false)
 ]
 
 pub returns : goal.returns

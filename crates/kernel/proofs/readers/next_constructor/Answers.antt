@@ -1,6 +1,4 @@
 use Rattle.kernel.proofs.Readings.{scanning_start, scanning_known, scanning_here, scanning_on, scanning_over}
-use mathlib.Core.Path.{sym, ◌∙◌}
-use borrow.Author.Tests.{eqb-true, eqb-false}
 use Rattle.kernel.proofs.readers.next_constructor.Goals as goal
 
 pub loop-i-init : goal.loop-i-init
@@ -9,11 +7,11 @@ loop-i-init c = scanning_start _ _ _ _ c.requires
 pub output-requires : goal.output-requires
 output-requires c = scanning_known c.loop-i.invariant c.loop-i-test.true
 
-pub returns-then-same_sort : goal.returns-then-same_sort
-returns-then-same_sort c = scanning_here c.loop-i.invariant c.loop-i-test.true _ c.output.ensures (eqb-true _ _ (sym c.same_sort.ensures ∙ c.if-same_sort.true))
+pub returns-then-output-sort : goal.returns-then-output-sort
+returns-then-output-sort c = scanning_here c.loop-i.invariant c.loop-i-test.true _ c.output.ensures c.if-output-sort.true
 
 pub loop-i-preserved : goal.loop-i-preserved
-loop-i-preserved c = scanning_on c.loop-i.invariant c.loop-i-test.true _ c.output.ensures (eqb-false _ _ (sym c.same_sort.ensures ∙ c.if-same_sort.false))
+loop-i-preserved c = scanning_on c.loop-i.invariant c.loop-i-test.true _ c.output.ensures c.if-output-sort.false
 
 pub returns : goal.returns
 returns c = scanning_over c.loop-i.invariant c.loop-i-test.false

@@ -1,7 +1,7 @@
 use Prim.Native.Nat.{◌+◌, ◌*◌}
 use native.Mathlib.Omega.{arith}
 use lib.ListN.{set, length-set}
-use Rattle.kernel.proofs.Holding.{symbol_full, symbol_stored}
+use Rattle.kernel.proofs.Holding.{row_pasted, symbol_full, symbol_stored}
 use Rattle.kernel.proofs.signatures.store.Goals as goal
 
 pub returns-then-count-ge-SYMBOLS-clause-declared : goal.returns-then-count-ge-SYMBOLS-clause-declared
@@ -26,5 +26,5 @@ put_name-requires c = let held = c.args.tables.now.held.symbols in
 pub returns-clause-declared : goal.returns-clause-declared
 returns-clause-declared c = λ text T s h is.
     let stored = symbol_stored T s h.symbols _ _ _ _ _ is c.if-count-ge-SYMBOLS.false in
-    rw (c.put_name.ensures, c.put_row.ensures)
+    rw (c.put_name.ensures, row_pasted _ _ _ _ c.write.ensures)
     (record { now = _; is = stored.is; held = record { sorts = h.sorts; symbols = stored.held; rules = h.rules } })

@@ -26,10 +26,10 @@ offset_bounds-known-at c = omega (arith, (head_row _ _ _ _ c.requires.held.1 c.n
 pub bounds-known-at : goal.bounds-known-at
 bounds-known-at c = omega (arith, (head_row _ _ _ _ c.requires.held.1 c.named.ensures c.in-Some.is).0)
 
-pub returns-then-not-same_sort-clause-head : goal.returns-then-not-same_sort-clause-head
-returns-then-not-same_sort-clause-head c = λ T R h w.
+pub returns-then-output-sort-clause-head : goal.returns-then-output-sort-clause-head
+returns-then-output-sort-clause-head c = λ T R h w.
     head_wrong_sort c.args.self.now.known.text.now c.args.start _ c.args.sort c.args.arity c.atom_end-end.ensures c.requires.inside T R h _
-    c.named.ensures _ c.in-Some.is (sym c.if-not-same_sort.ensures)
+    c.named.ensures _ c.in-Some.is c.if-output-sort.true
 
 pub overflow_add-many : goal.overflow_add-many
 overflow_add-many c = omega (arith, (head_row _ _ _ _ c.requires.held.1 c.named.ensures c.in-Some.is).0, c.well_formed)
@@ -43,7 +43,7 @@ bounds-known-at-2 c = omega (arith, (head_row _ _ _ _ c.requires.held.1 c.named.
 pub returns-then-many-arity-clause-head : goal.returns-then-many-arity-clause-head
 returns-then-many-arity-clause-head c = λ T R h w.
     head_wrong_count c.args.self.now.known.text.now c.args.start _ c.args.sort c.args.arity c.atom_end-end.ensures c.requires.inside T R h _
-    c.named.ensures _ c.in-Some.is (sym c.if-not-same_sort.ensures) c.if-many-arity.true
+    c.named.ensures _ c.in-Some.is c.if-output-sort.false c.if-many-arity.true
 
 pub word-requires : goal.word-requires
 word-requires c = record { long = c.requires.long; small = omega (arith, (head_row _ _ _ _ c.requires.held.1 c.named.ensures c.in-Some.is).1) }
@@ -51,9 +51,9 @@ word-requires c = record { long = c.requires.long; small = omega (arith, (head_r
 pub returns-in_err-word-clause-head : goal.returns-in_err-word-clause-head
 returns-in_err-word-clause-head c = λ T R h w. rw (handed c.from_residual.result c.from_residual.ensures)
     (head_full c.args.self.now.known.text.now c.args.start _ c.args.sort c.args.arity c.atom_end-end.ensures c.requires.inside T R h _
-    c.named.ensures _ c.in-Some.is (sym c.if-not-same_sort.ensures) c.if-many-arity.false _ _ w c.in_err-word.ensures.put)
+    c.named.ensures _ c.in-Some.is c.if-output-sort.false c.if-many-arity.false _ _ w c.in_err-word.ensures.put)
 
 pub returns-clause-head : goal.returns-clause-head
 returns-clause-head c = λ T R h w.
     head_written c.args.self.now.known.text.now c.args.start _ c.args.sort c.args.arity c.atom_end-end.ensures c.requires.inside T R h _
-    c.named.ensures _ c.in-Some.is (sym c.if-not-same_sort.ensures) c.if-many-arity.false _ _ w c.requires.long c.in_ok-word.ensures.put
+    c.named.ensures _ c.in-Some.is c.if-output-sort.false c.if-many-arity.false _ _ w c.requires.long c.in_ok-word.ensures.put

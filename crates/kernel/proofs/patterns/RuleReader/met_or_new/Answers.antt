@@ -17,11 +17,11 @@ offset_bounds-self-i c = omega (arith, var_place c.requires.held _ (var_inside c
 pub bounds-self-i : goal.bounds-self-i
 bounds-self-i c = var_place c.requires.held _ (var_inside c.requires.held _ _ _ c.numbered.ensures c.in-Some.is)
 
-pub returns-then-same_sort-clause-met : goal.returns-then-same_sort-clause-met
-returns-then-same_sort-clause-met c = λ R n h k. met_again c.args.sort R n h k _ c.numbered.ensures _ c.in-Some.is (sym c.same_sort.ensures ∙ c.if-same_sort.true)
+pub returns-then-had-sort-clause-met : goal.returns-then-had-sort-clause-met
+returns-then-had-sort-clause-met c = λ R n h k. met_again c.args.sort R n h k _ c.numbered.ensures _ c.in-Some.is c.if-had-sort.true
 
 pub returns-in-Some-clause-met : goal.returns-in-Some-clause-met
-returns-in-Some-clause-met c = λ R n h k. met_wrongly c.args.sort R n h k _ c.numbered.ensures _ c.in-Some.is (sym c.same_sort.ensures ∙ c.if-same_sort.false)
+returns-in-Some-clause-met c = λ R n h k. met_wrongly c.args.sort R n h k _ c.numbered.ensures _ c.in-Some.is c.if-had-sort.false
 
 pub returns-then-count-ge-RULEVARS-clause-met : goal.returns-then-count-ge-RULEVARS-clause-met
 returns-then-count-ge-RULEVARS-clause-met c = λ R n h k. met_full c.args.sort R n h k _ c.numbered.ensures c.in_default.is c.if-count-ge-RULEVARS.true
