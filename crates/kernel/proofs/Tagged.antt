@@ -1,14 +1,13 @@
 -- The tag of a declaration, and what each of the four declarations leaves in the tables. Assumes nothing.
 use mathlib.Core.Path.{◌≡◌, refl, sym, ap, ◌∙◌, subst}
-use Prim.Native.Nat.{ℕ, ◌+◌, ◌-◌, ◌≤◌, ◌<◌}
+use Prim.Native.Nat.{ℕ, ◌<◌}
 use mathlib.Core.Bool.{Bool, true, false, ◌&&◌}
 use Rattle.std.specs.Prelude.{Option, Some as some, None as nothing, Result, Err}
 use mathlib.Core.List.{List, [], ◌∷◌, append-nil}
 use native.Mathlib.Omega.{arith}
 use lib.Dec.{leb}
-use lib.ListN.{length, take, drop}
+use lib.ListN.{length}
 use borrow.Author.Tests.{leb-true}
-use Rattle.rules.specs.Lex.{letters}
 use Rattle.rules.specs.Out.{refuse, then, found}
 use Rattle.rules.specs.Sexp.{Sexp, Sexps, atom, list, nil, cons, count, item, name, items}
 use Rattle.rules.specs.Tags.{Declaration, a_sort, a_ctor, a_pred, a_rule, Row, theory_tags, within, fits, tag_in, declaration}
@@ -18,8 +17,8 @@ use Rattle.rules.specs.Declare.{add_sort, add_ctor, add_pred, add_rule, declare_
 use Rattle.sexp.specs.Never.{never}
 use Rattle.sexp.specs.Encode.{encode}
 use Rattle.sexp.specs.Items.{Holds, item_at}
-use Rattle.sexp.specs.ItemLaws.{More, some_cells}
-use Rattle.sexp.specs.WalkLaws.{ListIs, Walk, walk_start, walk_more, walk_over, walk_atom, walk_list, Span, span}
+use Rattle.sexp.specs.ItemLaws.{some_cells}
+use Rattle.sexp.specs.WalkLaws.{ListIs, walk_start, walk_atom, walk_list}
 use Rattle.sexp.specs.TagTable.{declaration_answer}
 use Rattle.sexp.specs.declared.items.Item.{Item}
 use Rattle.sexp.specs.declared.items.Item.TheVariants.{Atom, List as Part}

@@ -1,15 +1,12 @@
 -- A rule's variables in their row: as the look-up reads them, one met again, and a new one. Assumes nothing.
 use mathlib.Core.Path.{◌≡◌, refl, sym, ap, ◌∙◌, subst}
 use Prim.Native.Nat.{ℕ, suc, ◌+◌, ◌-◌, ◌*◌, ◌<◌, ◌≤◌}
-use mathlib.Core.Bool.{true, false}
 use Rattle.std.specs.Prelude.{Some as some, None as nothing, Option}
 use mathlib.Core.List.{List, [], ◌∷◌, ◌++◌}
 use native.Mathlib.Omega.{arith}
 use native.Mathlib.Numerals.{add-one}
-use lib.Dec.{eqb}
 use lib.ListN.{length, get_or, take, drop, set, replicate, length-append, length-set}
 use lib.Seq.{sets, length-sets, drop-drop, drop-set-lt, drop_at}
-use borrow.Author.Tests.{eqb-true, eqb-false}
 use Rattle.rules.specs.Limits.{RULEVARS}
 use Rattle.rules.specs.Text.{same}
 use Rattle.rules.specs.Find.{first}

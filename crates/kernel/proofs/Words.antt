@@ -6,10 +6,8 @@ use Rattle.std.specs.Prelude.{Some as some, None as nothing, Option, Result}
 use mathlib.Core.List.{List, [], ◌∷◌, ◌++◌}
 use native.Mathlib.Omega.{arith}
 use native.Mathlib.Numerals.{add-one}
-use lib.Dec.{eqb}
 use lib.ListN.{length, get_or, take, drop, set, length-set}
 use lib.Seq.{take-suc-set}
-use borrow.Author.Tests.{eqb-true, eqb-false}
 use Rattle.rules.specs.Limits.{SYMBOLS, PATTERNS}
 use Rattle.rules.specs.Find.{first}
 use Rattle.rules.specs.Laws.Find.{first_some}

@@ -10,6 +10,7 @@ ghost use Rattle.sexp.specs.Through.{Legible};
 
 use crate::declare::declare;
 use crate::tables::{Counts, Tables};
+use cells::clear;
 use questions::Refused;
 use sexp::sexp::{read_all, read_form};
 
@@ -30,7 +31,7 @@ fn declarations(text: &[u8], cells: &mut [u32], tables: &mut Tables<'_>) -> Resu
             Ok(None) => return Ok(forms),
             Ok(Some(form)) => {
                 let declared = declare(text, &cells[..form.cells], tables);
-                cells::clear(&mut cells[..form.cells]);
+                clear(&mut cells[..form.cells]);
                 if let Err(question) = declared {
                     return Err(Refused {
                         question,

@@ -13,6 +13,7 @@ use crate::names::SymbolTable;
 use crate::patterns::RuleReader;
 use crate::symbols::proper_at;
 use crate::tables::Counts;
+use cells::write;
 use questions::{Question, Row};
 use sexp::items;
 use sexp::items::Item;
@@ -116,7 +117,7 @@ fn store(
     rules[at + 3] = row.premises as u32;
     rules[at + 4] = row.first as u32;
     rules[at + 5] = row.last as u32;
-    cells::write(&mut vars[3 * rules::RULEVARS * count..], names);
+    write(&mut vars[3 * rules::RULEVARS * count..], names);
     Ok(())
 }
 

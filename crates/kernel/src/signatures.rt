@@ -15,7 +15,7 @@ use crate::atoms::put_name;
 use crate::names::Kind;
 use crate::symbols::{proper_at, sort};
 use crate::tables::Tables;
-use cells::Span;
+use cells::{Span, write};
 use questions::{Question, Row};
 use sexp::items;
 use sexp::items::Item;
@@ -87,7 +87,7 @@ fn store(
     tables.symbols[at] = output as u32;
     tables.symbols[at + 1] = arity as u32;
     put_name(tables.symbols, at + 2, name.from, name.end);
-    cells::write(&mut tables.inputs[rules::ARGUMENTS * count..], row);
+    write(&mut tables.inputs[rules::ARGUMENTS * count..], row);
     tables.held.symbols = count + 1;
     Ok(())
 }

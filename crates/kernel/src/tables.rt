@@ -4,6 +4,7 @@ ghost use Rattle.kernel.specs.Parsed.{CountsFit, zero_from, wiped};
 ghost use Rattle.kernel.specs.Tables.{lists_of, known_of, SameTables};
 
 use crate::names::SymbolTable;
+use cells::clear;
 
 // What is used: sorts, symbols, rules, and words of the rules' patterns.
 #[derive(Clone, Copy, Debug, PartialEq, Eq)]
@@ -56,11 +57,11 @@ impl Tables<'_> {
         ensures wiped { lists_of self.new ≡ wiped (lists_of self.old) self.old.held }
     {
         let held = self.held;
-        cells::clear(&mut self.sorts[2 * held.sorts..]);
-        cells::clear(&mut self.symbols[4 * held.symbols..]);
-        cells::clear(&mut self.inputs[rules::ARGUMENTS * held.symbols..]);
-        cells::clear(&mut self.rules[6 * held.rules..]);
-        cells::clear(&mut self.vars[3 * rules::RULEVARS * held.rules..]);
-        cells::clear(&mut self.patterns[held.words..]);
+        clear(&mut self.sorts[2 * held.sorts..]);
+        clear(&mut self.symbols[4 * held.symbols..]);
+        clear(&mut self.inputs[rules::ARGUMENTS * held.symbols..]);
+        clear(&mut self.rules[6 * held.rules..]);
+        clear(&mut self.vars[3 * rules::RULEVARS * held.rules..]);
+        clear(&mut self.patterns[held.words..]);
     }
 }

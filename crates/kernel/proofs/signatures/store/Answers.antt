@@ -1,6 +1,7 @@
 use Prim.Native.Nat.{◌+◌, ◌*◌}
 use native.Mathlib.Omega.{arith}
 use lib.ListN.{set, length-set}
+use Rattle.rules.specs.Limits.{ARGUMENTS}
 use Rattle.kernel.proofs.Holding.{row_pasted, symbol_full, symbol_stored}
 use Rattle.kernel.proofs.signatures.store.Goals as goal
 
@@ -26,5 +27,5 @@ put_name-requires c = let held = c.args.tables.now.held.symbols in
 pub returns-clause-declared : goal.returns-clause-declared
 returns-clause-declared c = λ text T s h is.
     let stored = symbol_stored T s h.symbols _ _ _ _ _ is c.if-count-ge-SYMBOLS.false in
-    rw (c.put_name.ensures, row_pasted _ _ _ _ c.write.ensures)
+    rw (c.put_name.ensures, row_pasted _ _ (ARGUMENTS * c.args.tables.now.held.symbols) _ c.write.ensures)
     (record { now = _; is = stored.is; held = record { sorts = h.sorts; symbols = stored.held; rules = h.rules } })

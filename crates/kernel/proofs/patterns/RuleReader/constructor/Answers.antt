@@ -1,4 +1,3 @@
-use mathlib.Core.Path.{sym}
 use native.Mathlib.Omega.{arith}
 use Rattle.kernel.specs.SignatureRows.{symbols_rows}
 use Rattle.kernel.proofs.Handed.{handed}

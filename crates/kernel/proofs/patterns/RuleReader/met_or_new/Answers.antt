@@ -1,4 +1,3 @@
-use mathlib.Core.Path.{sym, ◌∙◌}
 use native.Mathlib.Omega.{arith}
 use Rattle.kernel.proofs.Vars.{vars_rows, var_inside, var_place, var_fits, met_again, met_wrongly, met_full, met_new}
 use Rattle.kernel.specs.RuleRows.{var_name}
