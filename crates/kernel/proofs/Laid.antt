@@ -13,7 +13,6 @@ use Rattle.rules.specs.Laws.Row.{length_rows, length_filled, filled_fits}
 use Rattle.rules.specs.Laws.Prefix.{words_counted}
 use Rattle.kernel.specs.Held.{Front}
 use Rattle.kernel.specs.Parsed.{TheoryLists, theory_lists, TheoryHeld, Roomy, Exact, CountsFit, zero_from, wiped, counts_of, theory_tables}
-use Rattle.kernel.proofs.Holding.{part_back}
 use Rattle.kernel.specs.declared.tables.Counts.{Counts}
 use Rattle.kernel.specs.RuleRows.{length_rule_cells, rule_var_row_long}
 
@@ -32,13 +31,6 @@ module _ {table xs : List ℕ} (f : Front table xs) {k : ℕ} (e : length xs ≡
 -- a table of n cells, these first
 filled_front : (n : ℕ) (xs : List ℕ) → length xs ≤ n → Front (filled n xs) xs
 filled_front n xs h = record { rest = replicate (n - length xs) 0; is = filled_fits n xs h }
-
--- a table whose part from a place on was set to zero
-pub zero_behind : (table ys : List ℕ) (k : ℕ) → ys ≡ replicate (length (take (length table - k) (drop k table))) 0 →
-    take k table ++ (ys ++ drop (length table - k) (drop k table)) ≡ zero_from k table
-zero_behind table ys k e =
-    let n : length (take (length table - k) (drop k table)) ≡ length table - k = length-take-le (length table - k) (drop k table) (omega (arith, length-drop k table)) in
-    part_back table ys k ∙ ap (λ (l : List ℕ). take k table ++ l) (e ∙ ap (λ (m : ℕ). replicate m 0) n)
 
 -- How many cells are used ----------------------------------------------------------------------------------------------------------
 

@@ -3,7 +3,7 @@ use mathlib.Core.Path.{◌≡◌, refl, sym, ap, ◌∙◌, subst}
 use Prim.Native.Nat.{ℕ, ◌+◌}
 use mathlib.Core.List.{List, ◌++◌, append-nil}
 use native.Mathlib.Omega.{arith}
-use lib.ListN.{length, take, drop, replicate}
+use lib.ListN.{take, drop, replicate}
 use Rattle.rules.specs.Sexp.{read}
 use Rattle.rules.specs.Theory.{Theory, no_theory, rule_words}
 use Rattle.rules.specs.Laws.Theory.{empty}
@@ -23,10 +23,6 @@ use Rattle.sexp.specs.declared.sexp.Form.{Form}
 use Rattle.kernel.specs.Parsed.{TheoryLists, TheoryHeld, Formed, Declaring, DeclaredAs, Taken, Exact, Run, counts_of, no_counts, theory_of, verdict, CountsFit, wiped, theory_tables}
 use Rattle.kernel.specs.declared.tables.Counts.{Counts}
 use Rattle.kernel.proofs.Laid.{counts_are, within_of, laid_of, laid_held}
-
--- the first cells, set back to zero
-pub front_cleared : (v : List ℕ) (n : ℕ) {u : List ℕ} → n ≡ length (take n v) → u ≡ replicate (length (take n v)) 0 → u ++ drop n v ≡ replicate n 0 ++ drop n v
-front_cleared v n l e = ap (λ (x : List ℕ). x ++ drop n v) (e ∙ ap (λ (k : ℕ). replicate k 0) (sym l))
 
 -- What is held at the end ----------------------------------------------------------------------------------------------------------
 

@@ -1,7 +1,8 @@
 use mathlib.Core.Path.{refl, ap, ◌∙◌}
 use Rattle.std.specs.Prelude.{Ok}
-use Rattle.kernel.proofs.Runs.{front_cleared, underway_first, ended, failed, formed, declared_no, declared_ok, no_error, it}
-use Rattle.sexp.specs.Through.{going_cells, going_cleared}
+use Rattle.kernel.proofs.Runs.{underway_first, ended, failed, formed, declared_no, declared_ok, no_error, it}
+use Rattle.cells.specs.Cleared.{front_cleared}
+use Rattle.sexp.specs.Through.{going_room, going_cleared}
 use Rattle.kernel.proofs.parse.declarations.Goals as goal
 
 pub loop-form-init : goal.loop-form-init
@@ -21,14 +22,14 @@ pub returns-in-Err-declared-clause-cells_unchanged : goal.returns-in-Err-declare
 returns-in-Err-declared-clause-cells_unchanged c =
     let going = c.loop-form.invariant.0.going in
     let some = c.in-Ok-Some.is ∙ ap Ok c.in-Ok-Some.field-0-is in
-    going_cleared going c.read_form.ensures some (front_cleared _ _ (going_cells going c.read_form.ensures some c.read_form.auto.words) c.clear.ensures)
+    going_cleared going c.read_form.ensures some (front_cleared 0 _ _ (going_room going c.read_form.ensures some c.read_form.auto.words) c.clear.ensures)
 
 pub loop-form-preserved : goal.loop-form-preserved
 loop-form-preserved c = let under = c.loop-form.invariant.0 in
     let some = c.in-Ok-Some.is ∙ ap Ok c.in-Ok-Some.field-0-is in (
       declared_ok under c.read_form.ensures some _ _
           (c.declare-declared.ensures.declared under.T (it under c.read_form.ensures some).form under.theory (formed under c.read_form.ensures some))
-          (no_error _ c.in_default.not-Err) (front_cleared _ _ (going_cells under.going c.read_form.ensures some c.read_form.auto.words) c.clear.ensures),
+          (no_error _ c.in_default.not-Err) (front_cleared 0 _ _ (going_room under.going c.read_form.ensures some c.read_form.auto.words) c.clear.ensures),
       (let a = c.declare-declared.ensures.same_tables in
           let b = c.loop-form.invariant.1 in (a.0 ∙ b.0, a.1 ∙ b.1, a.2 ∙ b.2, a.3 ∙ b.3, a.4 ∙ b.4, a.5 ∙ b.5)),
     )

@@ -12,7 +12,7 @@ pub loop-left-init : goal.loop-left-init
 loop-left-init c = passing_start _ _ c.words-span.ensures c.premises-left.ensures c.requires
 
 pub offset_bounds-self-place : goal.offset_bounds-self-place
-offset_bounds-self-place c = omega (arith, (passing_next c.loop-left.invariant c.loop-left-test.true).inside, c.well_formed.0)
+offset_bounds-self-place c = omega (arith, (passing_next c.loop-left.invariant c.loop-left-test.true).inside)
 
 pub bounds-self-place : goal.bounds-self-place
 bounds-self-place c = (passing_next c.loop-left.invariant c.loop-left-test.true).inside
@@ -26,11 +26,10 @@ overflow_add-left c = omega (
   (passing_next c.loop-left.invariant c.loop-left-test.true).few,
   passing_few c.loop-left.invariant _
       c.arguments_behind-more.ensures c.loop-left-test.true,
-  c.well_formed.0,
 )
 
 pub overflow_add-place : goal.overflow_add-place
-overflow_add-place c = omega (arith, (passing_next c.loop-left.invariant c.loop-left-test.true).inside, c.well_formed.0)
+overflow_add-place c = omega (arith, (passing_next c.loop-left.invariant c.loop-left-test.true).inside)
 
 pub loop-left-smaller : goal.loop-left-smaller
 loop-left-smaller c = omega (arith, (passing_next c.loop-left.invariant c.loop-left-test.true).inside)
