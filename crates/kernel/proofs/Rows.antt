@@ -20,7 +20,7 @@ use Rattle.kernel.specs.Named.{kind_of, of_kind, SymbolAt, SomeSymbol, SymbolRow
 
 module _ (name : List ℕ) (b : Kind) {text table : List ℕ} {k : ℕ} {s : Symbol} (a : SymbolAt text table k s) where
   kind_is : kind_of b (get_or table (4 * k) 0) ≡ of_kind b s
-  unfolding kind_of of_kind is_predicate
+  unfolding of_kind is_predicate
   kind_is = go b
     where
       go : (c : Kind) → kind_of c (get_or table (4 * k) 0) ≡ of_kind c s
