@@ -19,9 +19,6 @@ returns-in-Err c = turns.refused c.loop-form.invariant c.read_form.ensures c.in-
 pub bracketed-requires : goal.bracketed-requires
 bracketed-requires c = (turns.cells_there c.loop-form.invariant c.read_form.ensures (rw c.in-Ok-Some.field-0-is at c.in-Ok-Some.is)).0
 
-pub clear-requires : goal.clear-requires
-clear-requires c = (turns.cells_there c.loop-form.invariant c.read_form.ensures (rw c.in-Ok-Some.field-0-is at c.in-Ok-Some.is)).1
-
 pub loop-form-smaller : goal.loop-form-smaller
 loop-form-smaller c = omega (arith, turns.on c.loop-form.invariant c.read_form.ensures (rw c.in-Ok-Some.field-0-is at c.in-Ok-Some.is))
 
