@@ -4,14 +4,12 @@ use mathlib.Core.Path.{◌≡◌, refl, sym, ap, ◌∙◌, subst}
 use mathlib.Core.Bool.{Bool, true, false}
 use Rattle.std.specs.Prelude.{Option, Some as some, None as nothing, Result}
 use mathlib.Core.List.{List, [], ◌∷◌, ◌++◌}
-use Prim.Native.Nat.{ℕ, ◌+◌, ◌-◌, ◌*◌, ◌<◌, ◌≤◌}
+use Prim.Native.Nat.{ℕ, ◌-◌, ◌*◌, ◌<◌, ◌≤◌}
 use native.Mathlib.Omega.{arith}
 use native.Mathlib.Nat.{not-suc-le-zero}
 use native.Mathlib.Decide.{dec_lt, dec_le}
-use lib.Dec.{eqb, ltb}
 use lib.ListN.{length, get_or, take, replicate, get_or-eq_default}
 use lib.Seq.{get_or-take}
-use borrow.Author.Tests.{lt-ltb, le-ltb}
 use Rattle.rules.specs.Limits.{SYMBOLS, VARIABLES}
 use Rattle.rules.specs.Out.{Out, ok, refuse, then, Act, ◌>>=◌, ask, found}
 use Rattle.rules.specs.Tree.{Tree, var, app, none}
@@ -27,10 +25,10 @@ use Rattle.kernel.specs.Held.{SymbolsHeld}
 use Rattle.kernel.specs.Readers.{KnownSymbol}
 use Rattle.kernel.specs.SignatureRows.{symbols_few}
 use Rattle.terms.specs.declared.store.Mark.{Mark}
-use Rattle.terms.specs.Table.{start, made, tree, tree_at, args_of, Good, Node, is_var, is_app, Stored}
+use Rattle.terms.specs.Table.{start, made, tree, tree_at, args_of, Good, Node, is_app, Stored}
 use Rattle.terms.specs.Node.{HeadIs}
 use Rattle.terms.specs.On.{Stopped, pure_went, pure_stopped}
-use Rattle.terms.specs.Laws.Tables.{tree_app, tree_var}
+use Rattle.terms.specs.Laws.Tables.{tree_app}
 use Rattle.terms.specs.Laws.Terms.{head_tree, term_app, term_var, variable_small}
 use Rattle.terms.specs.Laws.Numbers.{stored_is}
 use Rattle.terms.specs.Laws.Growth.{made_length}
@@ -112,13 +110,13 @@ module _ {symbols vars I W : List ℕ} {id : ℕ} (g : ReadsTerm symbols vars I 
 
 -- A node that came into the store -------------------------------------------------------------------------------------------------------
 
-pub kept_typed : {I W J X : List ℕ} {old new : Mark} {t : Tree} {K : Out Made Tree} {n sort expected : ℕ} {right : Bool} (S : State) →
-    Stored I W J X old t K n new → sort ≡ sort_of S.theory S.vars t → right ≡ eqb sort expected → TypedRead I W J X old S expected K n right new
-kept_typed {I} {W} {J} {X} {old} {new} {t} {K} {n} {sort} {expected} S s e f =
+pub kept_typed : {I W J X : List ℕ} {old new : Mark} {t : Tree} {K : Out Made Tree} {n sort : ℕ} (S : State) →
+    Stored I W J X old t K n new → sort ≡ sort_of S.theory S.vars t → TypedRead I W J X old S K n sort new
+kept_typed {I} {W} {J} {X} {old} {new} {t} {K} {n} {sort} S s e =
     let i : tree J X new n ≡ t = stored_is s in
     record {
       read = record { went = record { grown = s.grown; makes = s.makes ∙ ap (λ u. ok u (made J X new)) (sym i) }; there = s.there };
-      fits = f ∙ ap (λ k. eqb k expected) (e ∙ ap (sort_of S.theory S.vars) (sym i));
+      sorted = e ∙ ap (sort_of S.theory S.vars) (sym i);
     }
 
 -- Abbreviations -------------------------------------------------------------------------------------------------------------------------
@@ -147,15 +145,15 @@ module _ {text symbols vars defs : List ℕ} {n : Sizes} {I W : List ℕ} {m : M
         there = omega (arith, (found_def e).1, made_length I W m);
       }
 
-  pub def_typed : {t sort expected : ℕ} {right : Bool} → r ≡ some t → sort ≡ sort_of g.S.theory g.S.vars (tree I W m t) → right ≡ eqb sort expected →
-      TypedRead I W I W m g.S expected (found 22 (abbreviated g.S.defs name) (made I W m)) t right m
-  def_typed {expected = expected} e s f =
+  pub def_typed : {t sort : ℕ} → r ≡ some t → sort ≡ sort_of g.S.theory g.S.vars (tree I W m t) →
+      TypedRead I W I W m g.S (found 22 (abbreviated g.S.defs name) (made I W m)) t sort m
+  def_typed e s =
       record {
         read = record {
           went = pure_went g.good (ap (λ (o : Option Tree). found 22 o (made I W m)) (found_def e).0);
           there = omega (arith, (found_def e).1, made_length I W m);
         };
-        fits = f ∙ ap (λ k. eqb k expected) s;
+        sorted = s;
       }
 
   pub def_none : r ≡ nothing → Stopped I W I W m (found 22 (abbreviated g.S.defs name) (made I W m)) 22 0 m
@@ -175,10 +173,8 @@ module _ (S : State) (n : List ℕ) (M : Made) where
   unfolding named
   named_is o e = ap (λ (o : Option ℕ). (elim o as (λ (z : Option ℕ). Act Made Tree) [ some v ↦ keep (var v) | nothing ↦ constant S n ]) M) e
 
-  pub named_var : (v : ℕ) → var_named S.vars n ≡ some v → named S n M ≡ keep (tree_at M ((SYMBOLS + v) ∷ [])) M
-  named_var v e =
-      let z : SYMBOLS + v - SYMBOLS ≡ v = omega arith in
-      named_is (some v) e ∙ ap (λ t. keep t M) (sym (tree_var M (SYMBOLS + v) [] (omega arith) ∙ ap var z))
+  named_var : (v : ℕ) → var_named S.vars n ≡ some v → named S n M ≡ keep (var v) M
+  named_var v e = named_is (some v) e
 
   module _ (e : var_named S.vars n ≡ nothing) where
     pub named_unknown : constructor_named S.theory n ≡ nothing → named S n M ≡ refuse 22 0 M
@@ -208,10 +204,7 @@ unfolding is_empty
 empty_some [] e = absurd (e refl)
 empty_some (x ∷ xs) e = refl
 
--- nodes without arguments
-pub var_node : (n v : ℕ) → v < VARIABLES → Node n ((SYMBOLS + v) ∷ [])
-var_node n v l = record { narrow = omega arith; shaped = is_var {h = SYMBOLS + v} (omega arith) (omega arith) }
-
+-- a node without arguments
 pub app_node : (n c : ℕ) → c < SYMBOLS → Node n (c ∷ [])
 app_node n c l = record { narrow = omega arith; shaped = is_app {h = c} {xs = []} l (λ k m. absurd (not-suc-le-zero m)) }
 
@@ -227,21 +220,15 @@ module _ {theory goals text symbols vars : List ℕ} {n : Sizes} {I W : List ℕ
       pub var_asks : (length vars ≡ 4 * VARIABLES) × (v < VARIABLES)
       var_asks = (vars_long g.vars_are.stand, var_small)
 
-      pub var_kept : Good I W m × Node m.terms ((SYMBOLS + v) ∷ [])
-      var_kept = (g.good, var_node m.terms v var_small)
+      pub var_kept : Good I W m × (v < VARIABLES)
+      var_kept = (g.good, var_small)
 
-      pub var_sorted : {s : ℕ} → s ≡ cell 4 vars v 0 → s ≡ sort_of g.S.theory g.S.vars (tree_at (made I W m) ((SYMBOLS + v) ∷ []))
+      pub var_sorted : {s : ℕ} → s ≡ cell 4 vars v 0 → s ≡ sort_of g.S.theory g.S.vars (var v)
       unfolding sort_of
-      var_sorted f =
-          let z : SYMBOLS + v - SYMBOLS ≡ v = omega arith in
-          f ∙ var_sort_is g.vars_are.stand v
-          ∙ sym (ap (sort_of g.S.theory g.S.vars) (tree_var (made I W m) (SYMBOLS + v) [] (omega arith) ∙ ap var z))
+      var_sorted f = f ∙ var_sort_is g.vars_are.stand v
 
-      pub var_named_typed : (J X : List ℕ) (new : Mark) (sort : ℕ) (q : Result Typed Question) →
-          TypedBy I W J X m new g.S sort (keep (tree_at (made I W m) ((SYMBOLS + v) ∷ [])) (made I W m)) q →
-          TypedBy I W J X m new g.S sort (named g.S name (made I W m)) q
-      var_named_typed J X new sort q t =
-          subst (λ (K : Out Made Tree). TypedBy I W J X m new g.S sort K q) (sym (named_var g.S name (made I W m) v (found_at _ r v a e))) t
+      pub var_kept_is : named g.S name (made I W m) ≡ keep (var v) (made I W m)
+      var_kept_is = named_var g.S name (made I W m) v (found_at _ r v a e)
 
     -- The constructor of that name
     module _ (e : r ≡ nothing) {k : Option ℕ} (b : k ≡ (constructor_named g.S.theory name)) where
@@ -283,17 +270,9 @@ module _ {theory goals text symbols vars : List ℕ} {n : Sizes} {I W : List ℕ
               pure_stopped g.good
               (named_many g.S name (made I W m) no_var_lem c (found_at _ k c b f) (empty_some (inputs g.S.theory c) (λ z. q (arity_is ∙ z))))
 
-          pub constant_typed : s ≡ 0 → (J X : List ℕ) (new : Mark) (sort : ℕ) (q : Result Typed Question) →
-              TypedBy I W J X m new g.S sort (keep (tree_at (made I W m) (c ∷ [])) (made I W m)) q →
-              TypedBy I W J X m new g.S sort (named g.S name (made I W m)) q
-          constant_typed z J X new sort q t =
-              subst (λ (K : Out Made Tree). TypedBy I W J X m new g.S sort K q)
+          pub constant_typed : s ≡ 0 → (J X : List ℕ) (new : Mark) (q : Result Typed Question) →
+              TypedBy I W J X m new g.S (keep (tree_at (made I W m) (c ∷ [])) (made I W m)) q →
+              TypedBy I W J X m new g.S (named g.S name (made I W m)) q
+          constant_typed z J X new q t =
+              subst (λ (K : Out Made Tree). TypedBy I W J X m new g.S K q)
               (sym (named_app g.S name (made I W m) no_var_lem c (found_at _ k c b f) (empty_none (inputs g.S.theory c) (sym arity_is ∙ z)) constant_small)) t
-
--- Below a number, or not ------------------------------------------------------------------------------------------------------------------
-
-pub below_yes : {A : Type 0} (k n : ℕ) (v w : A) → k < n → v ≡ elim (ltb k n) [ true ↦ v | false ↦ w ]
-below_yes {A} k n v w l = ap (λ (b : Bool). elim b as (λ (z : Bool). A) [ true ↦ v | false ↦ w ]) (sym (lt-ltb k n l))
-
-pub below_no : {A : Type 0} (k n : ℕ) (v w : A) → n ≤ k → w ≡ elim (ltb k n) [ true ↦ v | false ↦ w ]
-below_no {A} k n v w l = ap (λ (b : Bool). elim b as (λ (z : Bool). A) [ true ↦ v | false ↦ w ]) (sym (le-ltb k n l))

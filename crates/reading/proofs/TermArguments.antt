@@ -9,7 +9,7 @@ use native.Mathlib.Decide.{ℕ_discrete}
 use lib.Dec.{eqb, ltb}
 use lib.ListN.{length, get_or, take, drop, set, length-append, length-set, length-drop}
 use lib.Seq.{take-suc, take-suc-set, take_all, length-take-le}
-use borrow.Author.Tests.{lt-ltb, eq-eqb, ne_eqb}
+use borrow.Author.Tests.{lt-ltb}
 use Rattle.rules.specs.Limits.{SYMBOLS, ARGUMENTS, TERMS, NODE}
 use Rattle.rules.specs.Out.{ok, then}
 use Rattle.rules.specs.Sexp.{Sexps, cons}
@@ -33,10 +33,10 @@ use Rattle.terms.specs.Laws.Patterns.{before}
 use Rattle.state.specs.declared.sizes.Sizes.{Sizes}
 use Rattle.state.specs.Held.{Names}
 use Rattle.reading.specs.Given.{Reads, ReadsItem}
-use Rattle.reading.specs.Answers.{TypedRead, ArgumentsRead}
+use Rattle.reading.specs.Answers.{TypedRead, ArgumentsRead, ArgumentsMisfit}
 use Rattle.reading.specs.Laws.Reading.{reads_term}
 use Rattle.reading.specs.Laws.Walks.{walk_next, walk_on, then_same}
-use Rattle.reading.proofs.TermTrees.{below_snoc, more_below, before_none, before_args, fit_snoc, fit_count, fit_many}
+use Rattle.reading.proofs.TermTrees.{below_snoc, more_below, before_none, before_args, fit_snoc, fit_count}
 
 -- A symbol that is there -----------------------------------------------------------------------------------------------------------
 
@@ -92,13 +92,9 @@ going_begins {I = I} {W} {m} {S = S} {xs} r h c count node start l e d q =
       few = omega arith;
     }
 
-and_true : (b : Bool) → b && true ≡ b
-and_true true = refl
-and_true false = refl
-
-and_false : (b : Bool) → b && false ≡ false
-and_false true = refl
-and_false false = refl
+unlike : (b : Bool) → (b ≡ true → ⊥) → b ≡ false
+unlike true n = absurd (n refl)
+unlike false n = refl
 
 put_long : (node after : List ℕ) (k t : ℕ) (b : Bool) → after ≡ elim b [ true ↦ set node (k + 1) t | false ↦ node ] → length after ≡ length node
 put_long node after k t true e = ap length e ∙ length-set node (k + 1) t
@@ -106,7 +102,7 @@ put_long node after k t false e = ap length e
 
 module _ {K : Names} {n : Sizes} {I W : List ℕ} {old : Mark} {cells : List ℕ} {c count : ℕ} {S : State} {xs : Sexps} {J X node : List ℕ} {m : Mark}
     {at k : ℕ} {fits : Bool} (g : Going K n I W old cells c count S xs J X node m at k fits) where
-  -- what `input_or_none` asks
+  -- what `takes` asks
   pub going_inputs : (count ≤ ARGUMENTS) × (c < SYMBOLS) × (length K.inputs ≡ ARGUMENTS * SYMBOLS)
   going_inputs = (omega (arith, inputs_few g.reads g.known, g.counted), symbol_small g.reads g.known, g.reads.spelling.held.longs)
 
@@ -140,9 +136,9 @@ module _ {K : Names} {n : Sizes} {I W : List ℕ} {old : Mark} {cells : List ℕ
           Stopped I W Y Z old (terms S xs (made I W old)) q d new
       going_stops q d a = on_no _ first_on (a going_item)
 
-      module _ (sort t : ℕ) (right : Bool)
-          (a : (h : ReadsItem K n J X m (take (length cells - at) (drop at cells))) → TypedRead J X Y Z m h.S sort (term h.S h.x (made J X m)) t right new) where
-        read_so : TypedRead J X Y Z m S sort (term S more_left.first (made J X m)) t right new
+      module _ (t sort : ℕ)
+          (a : (h : ReadsItem K n J X m (take (length cells - at) (drop at cells))) → TypedRead J X Y Z m h.S (term h.S h.x (made J X m)) t sort new) where
+        read_so : TypedRead J X Y Z m S (term S more_left.first (made J X m)) t sort new
         read_so = a going_item
 
         -- what `put_argument` asks
@@ -164,21 +160,24 @@ module _ {K : Names} {n : Sizes} {I W : List ℕ} {old : Mark} {cells : List ℕ
             (λ us u. ok (before (args_of (made J X m) g.ids) us) u)
             ∙ ap (λ (F : Trees → Trees). then (terms S more_left.others (made Y Z new)) (λ ts s. ok (F ts) s)) (λ i ts. agree ts i))
 
-        -- the sort that was expected is that of the input, as far as there are inputs
-        sort_is : sort ≡ elim (ltb k count) [ true ↦ get_or K.inputs (ARGUMENTS * c + k) 0 | false ↦ 0 ] → k < count → sort ≡ get_or (inputs S.theory c) k 0
-        sort_is s b =
-            s ∙ ap (λ (z : Bool). elim z [ true ↦ get_or K.inputs (ARGUMENTS * c + k) 0 | false ↦ 0 ]) (lt-ltb k count b)
-            ∙ argument_cell S.theory g.reads.spelling.held c g.known k (omega (arith, b, g.counted))
+        -- whether that is the sort of the input, as far as there are inputs
+        right_is : {right : Bool} → right ≡ ltb k count && eqb sort (get_or K.inputs (ARGUMENTS * c + k) 0) → k < count →
+            right ≡ eqb (sort_of S.theory S.vars (tree Y Z new t)) (get_or (inputs S.theory c) k 0)
+        right_is s b =
+            s ∙ ap (λ (z : Bool). z && eqb sort (get_or K.inputs (ARGUMENTS * c + k) 0)) (lt-ltb k count b)
+            ∙ ap (λ z. eqb z (get_or K.inputs (ARGUMENTS * c + k) 0)) read_so.sorted
+            ∙ ap (eqb (sort_of S.theory S.vars (tree Y Z new t)))
+            (argument_cell S.theory g.reads.spelling.held c g.known k (omega (arith, b, g.counted)))
 
-        next_sorts : sort ≡ elim (ltb k count) [ true ↦ get_or K.inputs (ARGUMENTS * c + k) 0 | false ↦ 0 ] → {both : Bool} → both ≡ fits && right →
+        next_sorts : {right : Bool} → right ≡ ltb k count && eqb sort (get_or K.inputs (ARGUMENTS * c + k) 0) → {both : Bool} → both ≡ fits && right →
             k + 1 ≤ count → both ≡ fit S.theory S.vars (args_of (made Y Z new) (g.ids ++ (t ∷ []))) (take (k + 1) (inputs S.theory c))
-        next_sorts s b l =
+        next_sorts {right} s b l =
             let under : k < length (inputs S.theory c) = omega (arith, l, g.counted) in
             let same-many : length g.ids ≡ length (take k (inputs S.theory c)) = g.many ∙ sym (length-take-le k (inputs S.theory c) (omega (arith, under))) in
             b
             ∙ ap (λ (z : Bool). z && right) (g.sorts (omega (arith, l)) ∙ ap (λ (us : Trees). fit S.theory S.vars us (take k (inputs S.theory c))) (sym args_kept))
             ∙ ap (λ (z : Bool). fit S.theory S.vars (args_of (made Y Z new) g.ids) (take k (inputs S.theory c)) && z)
-            (read_so.fits ∙ ap (eqb (sort_of S.theory S.vars (tree Y Z new t))) (sort_is s (omega (arith, l))))
+            (right_is s (omega (arith, l)))
             ∙ sym (fit_snoc S.theory S.vars (made Y Z new) g.ids (take k (inputs S.theory c)) t (get_or (inputs S.theory c) k 0) same-many)
             ∙ ap (fit S.theory S.vars (args_of (made Y Z new) (g.ids ++ (t ∷ []))))
             (sym (ap (λ (j : ℕ). take j (inputs S.theory c)) (add-one k) ∙ take-suc (inputs S.theory c) k 0 under))
@@ -192,11 +191,10 @@ module _ {K : Names} {n : Sizes} {I W : List ℕ} {old : Mark} {cells : List ℕ
             ∙ take-suc-set node (k + 1) t (omega (arith, b, g.long))
             ∙ ap (λ (ws : List ℕ). ws ++ (t ∷ [])) (g.puts (omega (arith, b)))
 
-        pub going_on : sort ≡ elim (ltb k count) [ true ↦ get_or K.inputs (ARGUMENTS * c + k) 0 | false ↦ 0 ] →
-            (after : List ℕ) → after ≡ elim (ltb k ARGUMENTS) [ true ↦ set node (k + 1) t | false ↦ node ] →
-            {both : Bool} → both ≡ fits && right → {next : ℕ} → next ≡ behind at (item_at cells at) →
+        pub going_on : (after : List ℕ) → after ≡ elim (ltb k ARGUMENTS) [ true ↦ set node (k + 1) t | false ↦ node ] →
+            {right : Bool} → right ≡ ltb k count && eqb sort (get_or K.inputs (ARGUMENTS * c + k) 0) → {both : Bool} → both ≡ fits && right → {next : ℕ} → next ≡ behind at (item_at cells at) →
             Going K n I W old cells c count S xs Y Z after new next (k + 1) both
-        going_on s after d b e =
+        going_on after d s b e =
             record {
               left = more_left.others;
               ids = g.ids ++ (t ∷ []);
@@ -235,28 +233,31 @@ module _ {K : Names} {n : Sizes} {I W : List ℕ} {old : Mark} {cells : List ℕ
           shaped = is_app {xs = g.ids} (symbol_small g.reads g.known) g.there;
         }
 
-    all_fit : {right : Bool} → right ≡ fits && eqb k count → right ≡ fit S.theory S.vars (args_of (made J X m) g.ids) (inputs S.theory c)
-    all_fit b = elim (ℕ_discrete k count) [
-      | yes e ↦ b ∙ ap (λ (z : Bool). fits && z) (eq-eqb k count e) ∙ and_true fits ∙ g.sorts (omega (arith, e))
-          ∙ ap (fit S.theory S.vars (args_of (made J X m) g.ids)) (take_all k (inputs S.theory c) (omega (arith, e, g.counted)))
-      | no w ↦ b ∙ ap (λ (z : Bool). fits && z) (ne_eqb k count w) ∙ and_false fits
-          ∙ sym (fit_count S.theory S.vars (args_of (made J X m) g.ids) (inputs S.theory c) (λ e. w (sym all_many ∙ e ∙ sym g.counted)))
-    ]
+    all_fit : k ≡ count → fits ≡ fit S.theory S.vars (args_of (made J X m) g.ids) (inputs S.theory c)
+    all_fit e =
+        g.sorts (omega (arith, e)) ∙ ap (fit S.theory S.vars (args_of (made J X m) g.ids)) (take_all k (inputs S.theory c) (omega (arith, e, g.counted)))
 
-    all_there : {right : Bool} → right ≡ fits && eqb k count → right ≡ true → k ≡ count
-    all_there b e = sym all_many ∙ fit_many S.theory S.vars (args_of (made J X m) g.ids) (inputs S.theory c) (sym (all_fit b) ∙ e) ∙ sym g.counted
-
-    pub going_ends : {right : Bool} → right ≡ fits && eqb k count → ArgumentsRead I W J X old S c node (terms S xs (made I W old)) (k + 1) right m
-    going_ends b =
+    -- they do not fit, or are not as many
+    pub going_misfits : (fits ≡ true → k ≡ count → ⊥) → ArgumentsMisfit I W J X old S c (terms S xs (made I W old)) m
+    going_misfits w =
         record {
           trees = args_of (made J X m) g.ids;
           went = on_done over_on;
+          misfit = elim (ℕ_discrete k count) [
+            | yes e ↦ sym (all_fit e) ∙ unlike fits (λ z. w z e)
+            | no z ↦ fit_count S.theory S.vars (args_of (made J X m) g.ids) (inputs S.theory c) (λ e. z (sym all_many ∙ e ∙ sym g.counted))
+          ];
+        }
+
+    pub going_ends : fits ≡ true → k ≡ count → ArgumentsRead I W J X old S c node (terms S xs (made I W old)) (k + 1) m
+    going_ends f e =
+        record {
+          trees = args_of (made J X m) g.ids;
+          went = on_done over_on;
+          fits = sym (all_fit e) ∙ f;
           many = ap (λ (j : ℕ). j + 1) (sym all_many);
-          fits = all_fit b;
-          fills = λ e. (
-            ap (tree_at (made J X m)) (node_is (all_there b e)) ∙ tree_app (made J X m) c g.ids (symbol_small g.reads g.known),
-            subst (Node m.terms) (sym (node_is (all_there b e))) (node_good (all_there b e)),
-          );
+          tree_is = ap (tree_at (made J X m)) (node_is e) ∙ tree_app (made J X m) c g.ids (symbol_small g.reads g.known);
+          good = subst (Node m.terms) (sym (node_is e)) (node_good e);
         }
 
 -- the cells that are left are no more than all

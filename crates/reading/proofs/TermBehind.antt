@@ -1,8 +1,7 @@
 -- A list that begins with a symbol, behind its arguments: their node is kept where they fit. Assumes nothing.
-use mathlib.Core.Path.{◌≡◌, refl, sym, ap, ◌∙◌}
-use mathlib.Core.Bool.{Bool, true, false, not}
+use mathlib.Core.Path.{◌≡◌, sym, ap, ◌∙◌, subst}
 use mathlib.Core.List.{List}
-use Rattle.std.specs.Prelude.{Result, Ok, Err}
+use Rattle.std.specs.Prelude.{Option, Some as some, None as nothing, Result, Ok, Err}
 use Prim.Native.Nat.{ℕ, ◌-◌, ◌≤◌}
 use native.Mathlib.Omega.{arith}
 use lib.ListN.{length, take, drop}
@@ -23,19 +22,10 @@ use Rattle.state.specs.declared.sizes.Sizes.{Sizes}
 use Rattle.state.specs.Held.{Names}
 use Rattle.reading.specs.declared.term.Typed.{Typed}
 use Rattle.reading.specs.Given.{Reads, ReadsItems}
-use Rattle.reading.specs.Answers.{TermRead, TypedBy, ArgumentsRead}
+use Rattle.reading.specs.Answers.{TermRead, TypedBy, ArgumentsRead, ArgumentsBy}
 use Rattle.reading.specs.Heads.{Opens, Opened, finish}
 use Rattle.reading.proofs.TermTrees.{fit_many}
 use Rattle.reading.proofs.TermArguments.{inputs_few}
-
--- a test that is turned round
-pub turned_false : (b : Bool) → not b ≡ true → b ≡ false
-turned_false true e = sym e
-turned_false false e = refl
-
-pub turned_true : (b : Bool) → not b ≡ false → b ≡ true
-turned_true true e = refl
-turned_true false e = sym e
 
 -- What the items begin with ------------------------------------------------------------------------------------------------------------
 
@@ -59,61 +49,63 @@ module _ {K : Names} {n : Sizes} {I W : List ℕ} {m : Mark} {S : State} (g : Re
         Stopped I W J X m (Q (made I W m)) q d new
     behind_stops q d a = on_no (finish S c) (on_is (on_start g.good) (o.is (made I W m))) (a rest_items)
 
-    module _ (node : List ℕ) (len : ℕ) (right : Bool)
-        (a : (h : ReadsItems K n I W m (take (length cells - 1) (drop 1 cells))) → ArgumentsRead I W J X m h.S c node (terms h.S h.xs (made I W m)) len right new) where
-      so : ArgumentsRead I W J X m S c node (terms S o.others (made I W m)) len right new
-      so = a rest_items
+    -- they do not fit
+    pub behind_misfits : (node : List ℕ) {r : Option ℕ} → r ≡ nothing → ((h : ReadsItems K n I W m (take (length cells - 1) (drop 1 cells))) →
+        ArgumentsBy I W J X m new h.S c node (terms h.S h.xs (made I W m)) (Ok r)) → Stopped I W J X m (Q (made I W m)) 23 0 new
+    behind_misfits node {r} e a = go r e (a rest_items)
+      where
+        go : (z : Option ℕ) → z ≡ nothing → ArgumentsBy I W J X m new S c node (terms S o.others (made I W m)) (Ok z) → Stopped I W J X m (Q (made I W m)) 23 0 new
+        go nothing f k =
+            on_ask_no (λ _ u. keep (app c k.trees) u) 23 (on_ok (finish S c) (on_is (on_start g.good) (o.is (made I W m))) k.went) k.misfit
+        go (some len) f k = absurd (let z : nothing ≡ some len = sym f in cc)
 
-      behind_on : On I W m (Q (made I W m)) J X new (finish S c so.trees (made J X new))
-      behind_on = on_ok (finish S c) (on_is (on_start g.good) (o.is (made I W m))) so.went
+    module _ (node : List ℕ) {len : ℕ} {r : Option ℕ} (e : r ≡ some len)
+        (a : (h : ReadsItems K n I W m (take (length cells - 1) (drop 1 cells))) → ArgumentsBy I W J X m new h.S c node (terms h.S h.xs (made I W m)) (Ok r)) where
+      so : ArgumentsRead I W J X m S c node (terms S o.others (made I W m)) len new
+      so = subst (λ z. ArgumentsBy I W J X m new S c node (terms S o.others (made I W m)) (Ok z)) e (a rest_items)
 
-      pub behind_misfits : not right ≡ true → Stopped I W J X m (Q (made I W m)) 23 0 new
-      behind_misfits y = on_ask_no (λ _ u. keep (app c so.trees) u) 23 behind_on (sym so.fits ∙ turned_false right y)
+      pub behind_narrow : len ≤ NODE
+      behind_narrow = omega (arith, so.many, fit_many S.theory S.vars so.trees (inputs S.theory c) so.fits, inputs_few g o.known)
 
-      module _ (y : not right ≡ false) where
-        pub behind_narrow : len ≤ NODE
-        behind_narrow =
-            omega (arith, so.many, fit_many S.theory S.vars so.trees (inputs S.theory c) (sym so.fits ∙ turned_true right y), inputs_few g o.known)
+      -- the cells of the node
+      pub behind_length : length node ≡ NODE → len ≡ length (take len node)
+      behind_length l = sym (length-take-le len node (omega (arith, behind_narrow, l)))
 
-        -- the cells of the node
-        pub behind_length : length node ≡ NODE → len ≡ length (take len node)
-        behind_length l = sym (length-take-le len node (omega (arith, behind_narrow, l)))
+      -- what `keep` and `keep_typed` ask
+      pub behind_node : Good J X new × Node new.terms (take len node)
+      behind_node = (so.went.grown.good, so.good)
 
-        -- what `keep` and `keep_typed` ask
-        pub behind_node : Good J X new × Node new.terms (take len node)
-        behind_node = (so.went.grown.good, (so.fills (turned_true right y)).1)
+      behind_keeps : On I W m (Q (made I W m)) J X new (keep (tree_at (made J X new) (take len node)) (made J X new))
+      behind_keeps =
+          on_is (on_ask_yes (λ _ u. keep (app c so.trees) u) 23 (on_ok (finish S c) (on_is (on_start g.good) (o.is (made I W m))) so.went) so.fits)
+          (ap (λ (t : Tree). keep t (made J X new)) (sym so.tree_is))
 
-        behind_keeps : On I W m (Q (made I W m)) J X new (keep (tree_at (made J X new) (take len node)) (made J X new))
-        behind_keeps =
-            on_is (on_ask_yes (λ _ u. keep (app c so.trees) u) 23 behind_on (sym so.fits ∙ turned_true right y))
-            (ap (λ (t : Tree). keep t (made J X new)) (sym (so.fills (turned_true right y)).0))
+      -- the node is kept as a term of a sort
+      sort_output : {out : ℕ} → out ≡ output S.theory c → out ≡ sort_of S.theory S.vars (tree_at (made J X new) (take len node))
+      unfolding sort_of
+      sort_output x = x ∙ sym (ap (sort_of S.theory S.vars) so.tree_is)
 
-        -- the node is kept as a term of a sort
-        sort_output : {out : ℕ} → out ≡ output S.theory c → out ≡ sort_of S.theory S.vars (tree_at (made J X new) (take len node))
-        unfolding sort_of
-        sort_output x = x ∙ sym (ap (sort_of S.theory S.vars) (so.fills (turned_true right y)).0)
+      pub behind_typed : (Y Z : List ℕ) (last : Mark) (out : ℕ) (s : Result Typed Question) → out ≡ output S.theory c →
+          ((U : State) → out ≡ sort_of U.theory U.vars (tree_at (made J X new) (take len node)) →
+          TypedBy J X Y Z new last U (keep (tree_at (made J X new) (take len node)) (made J X new)) s) →
+          TypedBy I W Y Z m last S (Q (made I W m)) s
+      behind_typed Y Z last out s x k = go s (k S (sort_output x))
+        where
+          go : (z : Result Typed Question) → TypedBy J X Y Z new last S (keep (tree_at (made J X new) (take len node)) (made J X new)) z → TypedBy I W Y Z m last S (Q (made I W m)) z
+          go (Ok kept) w = record { read = record { went = on_went behind_keeps w.read.went; there = w.read.there }; sorted = w.sorted }
+          go (Err q) w = on_stopped behind_keeps w
 
-        pub behind_typed : (Y Z : List ℕ) (last : Mark) (out sort : ℕ) (s : Result Typed Question) → out ≡ output S.theory c →
-            ((U : State) → out ≡ sort_of U.theory U.vars (tree_at (made J X new) (take len node)) →
-            TypedBy J X Y Z new last U sort (keep (tree_at (made J X new) (take len node)) (made J X new)) s) →
-            TypedBy I W Y Z m last S sort (Q (made I W m)) s
-        behind_typed Y Z last out sort s x k = go s (k S (sort_output x))
-          where
-            go : (z : Result Typed Question) → TypedBy J X Y Z new last S sort (keep (tree_at (made J X new) (take len node)) (made J X new)) z → TypedBy I W Y Z m last S sort (Q (made I W m)) z
-            go (Ok kept) w = record { read = record { went = on_went behind_keeps w.read.went; there = w.read.there }; fits = w.fits }
-            go (Err q) w = on_stopped behind_keeps w
+      -- as it is
+      module _ {Y Z : List ℕ} {last : Mark} where
+        pub behind_kept : {id : ℕ} →
+            Stored J X Y Z new (tree_at (made J X new) (take len node)) (keep (tree_at (made J X new) (take len node)) (made J X new)) id last →
+            TermRead I W Y Z m (Q (made I W m)) id last
+        behind_kept w =
+            record {
+              went = on_went behind_keeps (record { grown = w.grown; makes = w.makes ∙ ap (λ (t : Tree). ok t (made Y Z last)) (sym (stored_is w)) });
+              there = w.there;
+            }
 
-        -- as it is
-        module _ {Y Z : List ℕ} {last : Mark} where
-          pub behind_kept : {id : ℕ} →
-              Stored J X Y Z new (tree_at (made J X new) (take len node)) (keep (tree_at (made J X new) (take len node)) (made J X new)) id last →
-              TermRead I W Y Z m (Q (made I W m)) id last
-          behind_kept w =
-              record {
-                went = on_went behind_keeps (record { grown = w.grown; makes = w.makes ∙ ap (λ (t : Tree). ok t (made Y Z last)) (sym (stored_is w)) });
-                there = w.there;
-              }
-
-          pub behind_full : {row : ℕ} → Refused Tree J X Y Z new (keep (tree_at (made J X new) (take len node)) (made J X new)) row last →
-              Stopped I W Y Z m (Q (made I W m)) 60 row last
-          behind_full w = on_stopped behind_keeps (refused_stopped w)
+        pub behind_full : {row : ℕ} → Refused Tree J X Y Z new (keep (tree_at (made J X new) (take len node)) (made J X new)) row last →
+            Stopped I W Y Z m (Q (made I W m)) 60 row last
+        behind_full w = on_stopped behind_keeps (refused_stopped w)

@@ -67,20 +67,20 @@ module _ {K : Names} {n : Sizes} {I W : List ℕ} {m : Mark} {p : ℕ}
   name_is : take (end - p) (drop p K.text) ≡ letters (drop p K.text)
   name_is = atom_part K.text p end g.inside d
 
-  pub atom_abbreviates : {b : Bool} → b ≡ marked (letters (drop p K.text)) → b ≡ true → (sort : ℕ) (r : Result Typed Question) →
+  pub atom_abbreviates : {b : Bool} → b ≡ marked (letters (drop p K.text)) → b ≡ true → (r : Result Typed Question) →
       ((h : ReadsDefs K.text K.symbols K.vars K.defs n I W m) →
-      TypedBy I W I W m m h.S sort (found 22 (abbreviated h.S.defs (take (end - p) (drop p K.text))) (made I W m)) r) →
-      TypedBy I W I W m m g.S sort (term g.S (atom p (letters (drop p K.text))) (made I W m)) r
-  atom_abbreviates k w sort r a =
-      subst (λ (z : Out Made Tree). TypedBy I W I W m m g.S sort z r)
+      TypedBy I W I W m m h.S (found 22 (abbreviated h.S.defs (take (end - p) (drop p K.text))) (made I W m)) r) →
+      TypedBy I W I W m m g.S (term g.S (atom p (letters (drop p K.text))) (made I W m)) r
+  atom_abbreviates k w r a =
+      subst (λ (z : Out Made Tree). TypedBy I W I W m m g.S z r)
       (ap (λ (bs : List ℕ). found 22 (abbreviated g.S.defs bs) (made I W m)) name_is ∙ sym (term_marked g.S (made I W m) p (letters (drop p K.text)) (sym k ∙ w)))
       (a (reads_defs g.reads))
 
-  pub atom_names : {b : Bool} → b ≡ marked (letters (drop p K.text)) → b ≡ false → (Y Z : List ℕ) (new : Mark) (sort : ℕ) (r : Result Typed Question) →
-      ((h : ReadsNames K.theory K.goals K.text K.symbols K.vars n I W m) → TypedBy I W Y Z m new h.S sort (named h.S (take (end - p) (drop p K.text)) (made I W m)) r) →
-      TypedBy I W Y Z m new g.S sort (term g.S (atom p (letters (drop p K.text))) (made I W m)) r
-  atom_names k w Y Z new sort r a =
-      subst (λ (z : Out Made Tree). TypedBy I W Y Z m new g.S sort z r)
+  pub atom_names : {b : Bool} → b ≡ marked (letters (drop p K.text)) → b ≡ false → (Y Z : List ℕ) (new : Mark) (r : Result Typed Question) →
+      ((h : ReadsNames K.theory K.goals K.text K.symbols K.vars n I W m) → TypedBy I W Y Z m new h.S (named h.S (take (end - p) (drop p K.text)) (made I W m)) r) →
+      TypedBy I W Y Z m new g.S (term g.S (atom p (letters (drop p K.text))) (made I W m)) r
+  atom_names k w Y Z new r a =
+      subst (λ (z : Out Made Tree). TypedBy I W Y Z m new g.S z r)
       (ap (λ (bs : List ℕ). named g.S bs (made I W m)) name_is ∙ sym (term_plain g.S (made I W m) p (letters (drop p K.text)) (sym k ∙ w)))
       (a (reads_names g.reads))
 
@@ -103,11 +103,11 @@ module _ {K : Names} {n : Sizes} {I W : List ℕ} {m : Mark} {cells : List ℕ} 
     abbrev pub atom_given : ReadsAtom K n I W m p
     atom_given = record { S = g.S; reads = g.reads; inside = item_atom_lem.inside }
 
-    pub term_atomic : (Y Z : List ℕ) (new : Mark) (sort : ℕ) (r : Result Typed Question) →
+    pub term_atomic : (Y Z : List ℕ) (new : Mark) (r : Result Typed Question) →
         ((h : ReadsAtom K n I W m p) →
-        TypedBy I W Y Z m new h.S sort (term h.S (atom p (letters (drop p K.text))) (made I W m)) r) →
-        TypedBy I W Y Z m new g.S sort (term g.S g.x (made I W m)) r
-    term_atomic Y Z new sort r a = subst (λ (z : Sexp). TypedBy I W Y Z m new g.S sort (term g.S z (made I W m)) r) (sym atom_x) (a atom_given)
+        TypedBy I W Y Z m new h.S (term h.S (atom p (letters (drop p K.text))) (made I W m)) r) →
+        TypedBy I W Y Z m new g.S (term g.S g.x (made I W m)) r
+    term_atomic Y Z new r a = subst (λ (z : Sexp). TypedBy I W Y Z m new g.S (term g.S z (made I W m)) r) (sym atom_x) (a atom_given)
 
     pub judgment_atom : Stopped I W I W m (judgment g.S g.x (made I W m)) 22 0 m
     judgment_atom = pure_stopped g.reads.good (ap (λ (z : Sexp). judgment g.S z (made I W m)) atom_x ∙ judgment_no g.S (made I W m) p (letters (drop p K.text)))
@@ -122,11 +122,11 @@ module _ {K : Names} {n : Sizes} {I W : List ℕ} {m : Mark} {cells : List ℕ} 
     abbrev pub list_items : ReadsItems K n I W m (take (b - a) (drop a cells))
     list_items = record { S = g.S; xs = item_list.inner; reads = g.reads; holds = item_list.holds }
 
-    pub term_compounds : (Y Z : List ℕ) (new : Mark) (sort : ℕ) (r : Result Typed Question) →
-        ((h : ReadsItems K n I W m (take (b - a) (drop a cells))) → TypedBy I W Y Z m new h.S sort (compound h.S h.xs (made I W m)) r) →
-        TypedBy I W Y Z m new g.S sort (term g.S g.x (made I W m)) r
-    term_compounds Y Z new sort r k =
-        subst (λ (z : Out Made Tree). TypedBy I W Y Z m new g.S sort z r) (sym (term_list g.S (made I W m) g.x list_x)) (k list_items)
+    pub term_compounds : (Y Z : List ℕ) (new : Mark) (r : Result Typed Question) →
+        ((h : ReadsItems K n I W m (take (b - a) (drop a cells))) → TypedBy I W Y Z m new h.S (compound h.S h.xs (made I W m)) r) →
+        TypedBy I W Y Z m new g.S (term g.S g.x (made I W m)) r
+    term_compounds Y Z new r k =
+        subst (λ (z : Out Made Tree). TypedBy I W Y Z m new g.S z r) (sym (term_list g.S (made I W m) g.x list_x)) (k list_items)
 
     -- what `predicate_first` answers, said of the judgment
     pub judgment_opens : {p : ℕ} →

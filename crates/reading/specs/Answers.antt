@@ -1,6 +1,6 @@
 -- What the functions of this crate answer, beside what the definition answers: K. Each relation is said over plain tables and marks (By), and of the
 -- store before and afterwards (As). Assumes nothing.
-use Rattle.std.specs.Prelude.{◌≡◌, Bool, true, List, ℕ, ◌+◌, ◌<◌, eqb, length, take, Some as some, None as nothing, Option, Result, Ok, Err}
+use Rattle.std.specs.Prelude.{◌≡◌, Bool, true, false, List, ℕ, ◌+◌, ◌<◌, length, take, Some as some, None as nothing, Option, Result, Ok, Err}
 use Rattle.rules.specs.Limits.{VARIABLES}
 use Rattle.rules.specs.Out.{Out, ok, refuse}
 use Rattle.rules.specs.Find.{has}
@@ -22,7 +22,6 @@ use Rattle.questions.specs.Numbers.{number_of, detail_of}
 use Rattle.questions.specs.declared.Question.{Question}
 use Rattle.terms.specs.declared.store.Store.{Store}
 use Rattle.reading.specs.declared.term.Typed.{Typed}
-use Rattle.reading.specs.declared.term.Arguments.{Arguments}
 use Rattle.reading.specs.declared.bindings.Pair.{Pair}
 use Rattle.reading.specs.Items.{vars_in}
 
@@ -40,31 +39,38 @@ ReadBy I W J X old new K (Err q) = Stopped I W J X old K (number_of q) (detail_o
 abbrev pub ReadAs : Store → Store → Out Made Tree → Result ℕ Question → Type 0
 ReadAs s t K r = ReadBy s.index.now s.words.now t.index.now t.words.now s.mark t.mark K r
 
--- and whether it is of that sort
-pub record TypedRead (I W J X : List ℕ) (old : Mark) (S : State) (sort : ℕ) (K : Out Made Tree) (id : ℕ) (right : Bool) (new : Mark) : Type 0 where
+-- and that is its sort
+pub record TypedRead (I W J X : List ℕ) (old : Mark) (S : State) (K : Out Made Tree) (id sort : ℕ) (new : Mark) : Type 0 where
   pub read : TermRead I W J X old K id new
-  pub fits : right ≡ eqb (sort_of S.theory S.vars (tree J X new id)) sort
+  pub sorted : sort ≡ sort_of S.theory S.vars (tree J X new id)
 
-abbrev pub TypedBy : List ℕ → List ℕ → List ℕ → List ℕ → Mark → Mark → State → ℕ → Out Made Tree → Result Typed Question → Type 0
-TypedBy I W J X old new S sort K (Ok t) = TypedRead I W J X old S sort K t.term t.fits new
-TypedBy I W J X old new S sort K (Err q) = Stopped I W J X old K (number_of q) (detail_of q) new
+abbrev pub TypedBy : List ℕ → List ℕ → List ℕ → List ℕ → Mark → Mark → State → Out Made Tree → Result Typed Question → Type 0
+TypedBy I W J X old new S K (Ok t) = TypedRead I W J X old S K t.term t.sort new
+TypedBy I W J X old new S K (Err q) = Stopped I W J X old K (number_of q) (detail_of q) new
 
-abbrev pub TypedAs : Store → Store → State → ℕ → Out Made Tree → Result Typed Question → Type 0
-TypedAs s t S sort K r = TypedBy s.index.now s.words.now t.index.now t.words.now s.mark t.mark S sort K r
+abbrev pub TypedAs : Store → Store → State → Out Made Tree → Result Typed Question → Type 0
+TypedAs s t S K r = TypedBy s.index.now s.words.now t.index.now t.words.now s.mark t.mark S K r
 
--- K answers terms; where they fit symbol c, the first cells of the node are that of c over them
-pub record ArgumentsRead (I W J X : List ℕ) (old : Mark) (S : State) (c : ℕ) (node : List ℕ) (K : Out Made Trees) (len : ℕ) (right : Bool) (new : Mark) : Type 0 where
+-- K answers terms that fit symbol c, and the first cells of the node are that of c over them; or terms that do not fit
+pub record ArgumentsRead (I W J X : List ℕ) (old : Mark) (S : State) (c : ℕ) (node : List ℕ) (K : Out Made Trees) (len : ℕ) (new : Mark) : Type 0 where
   pub trees : Trees
   pub went : Went I W J X old K trees new
+  pub fits : fit S.theory S.vars trees (inputs S.theory c) ≡ true
   pub many : len ≡ count_trees trees + 1
-  pub fits : right ≡ fit S.theory S.vars trees (inputs S.theory c)
-  pub fills : right ≡ true → (tree_at (made J X new) (take len node) ≡ app c trees) × Node new.terms (take len node)
+  pub tree_is : tree_at (made J X new) (take len node) ≡ app c trees
+  pub good : Node new.terms (take len node)
 
-abbrev pub ArgumentsBy : List ℕ → List ℕ → List ℕ → List ℕ → Mark → Mark → State → ℕ → List ℕ → Out Made Trees → Result Arguments Question → Type 0
-ArgumentsBy I W J X old new S c node K (Ok a) = ArgumentsRead I W J X old S c node K a.len a.fits new
+pub record ArgumentsMisfit (I W J X : List ℕ) (old : Mark) (S : State) (c : ℕ) (K : Out Made Trees) (new : Mark) : Type 0 where
+  pub trees : Trees
+  pub went : Went I W J X old K trees new
+  pub misfit : fit S.theory S.vars trees (inputs S.theory c) ≡ false
+
+abbrev pub ArgumentsBy : List ℕ → List ℕ → List ℕ → List ℕ → Mark → Mark → State → ℕ → List ℕ → Out Made Trees → Result (Option ℕ) Question → Type 0
+ArgumentsBy I W J X old new S c node K (Ok (some len)) = ArgumentsRead I W J X old S c node K len new
+ArgumentsBy I W J X old new S c node K (Ok nothing) = ArgumentsMisfit I W J X old S c K new
 ArgumentsBy I W J X old new S c node K (Err q) = Stopped I W J X old K (number_of q) (detail_of q) new
 
-abbrev pub ArgumentsAs : Store → Store → State → ℕ → List ℕ → Out Made Trees → Result Arguments Question → Type 0
+abbrev pub ArgumentsAs : Store → Store → State → ℕ → List ℕ → Out Made Trees → Result (Option ℕ) Question → Type 0
 ArgumentsAs s t S c node K r = ArgumentsBy s.index.now s.words.now t.index.now t.words.now s.mark t.mark S c node K r
 
 -- Lists --------------------------------------------------------------------------------------------------------------------------

@@ -1,4 +1,5 @@
 -- The texts and tables of a reader. Assumes nothing.
+use Rattle.kernel.specs.declared.names.SymbolTable.{SymbolTable}
 use Rattle.state.specs.declared.board.Given.{Given}
 use Rattle.state.specs.declared.board.Board.{Board}
 use Rattle.state.specs.Held.{Names, names}
@@ -20,3 +21,7 @@ reader_of g b =
       defs = record { ref_ptr = b.defs.ref_ptr; now = b.defs.now };
       n = b.n;
     }
+
+-- its symbols
+abbrev pub symbols_of : Reader → SymbolTable
+symbols_of r = record { text = r.theory; rows = r.symbols; inputs = r.inputs; count = r.n.symbols }

@@ -35,6 +35,7 @@ impl Reader<'_> {
             VarsAs g.S.vars (list g.xs) out.new out.new result }
     {
         let mut seen = [0u64; VARIABLEWORDS];
+        // counted beside the items, since it is answered: asked of them, it would be a second walk
         let mut k = 0;
         for item in items::all(cells) {
             let v = self.variable(item)?;
@@ -81,6 +82,7 @@ impl Reader<'_> {
         ensures judgments_as { (g : ReadsItems (names_of self.now) self.now.n store.old.index.now store.old.words.now store.old.mark cells.now) →
             JudgmentsAs store.old store.new (judgments g.S (list g.xs) (made_of store.old)) out.new out.new result }
     {
+        // counted beside the items, as in `vars_each`
         let mut k = 0;
         for item in items::all(cells) {
             let t = self.judgment(store, item)?;

@@ -1,7 +1,8 @@
 // What names stand for: the texts and tables from which the items of a form are read.
 ghost use Rattle.std.specs.Prelude.{◌≡◌};
-ghost use Rattle.reading.specs.Reader.{reader_of};
+ghost use Rattle.reading.specs.Reader.{reader_of, symbols_of};
 
+use kernel::names::SymbolTable;
 use state::board::{Board, Given};
 use state::sizes::Sizes;
 
@@ -31,5 +32,19 @@ pub fn reader_of<'a>(given: &Given<'a>, board: &'a Board<'_>) -> Reader<'a>
         vars: board.vars,
         defs: board.defs,
         n: board.n,
+    }
+}
+
+impl<'a> Reader<'a> {
+    // The symbols, as names are looked up in them.
+    pub fn symbol_table(&self) -> SymbolTable<'a>
+        ensures { result ≡ symbols_of self.now }
+    {
+        SymbolTable {
+            text: self.theory,
+            rows: self.symbols,
+            inputs: self.inputs,
+            count: self.n.symbols,
+        }
     }
 }

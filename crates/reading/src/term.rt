@@ -1,6 +1,6 @@
-// Terms and judgments: questions 22 and 23. What is read comes into the store on the way, each argument before its term. The sort that is expected is
-// handed down; counts and sorts are asked behind the arguments, of which those beyond the sixteenth are made as well.
-ghost use Rattle.std.specs.Prelude.{◌≡◌, true, false, ◌+◌, ◌*◌, ◌<◌, ◌≤◌, ltb, length, get_or, set, drop};
+// Terms and judgments: questions 22 and 23. What is read comes into the store on the way, each argument before its term. Counts and sorts are asked
+// behind the arguments, of which those beyond the sixteenth are made as well.
+ghost use Rattle.std.specs.Prelude.{◌≡◌, true, false, ◌&&◌, ◌+◌, ◌*◌, ◌<◌, ◌≤◌, eqb, ltb, length, get_or, set, drop};
 ghost use Rattle.rules.specs.Limits.{SYMBOLS, ARGUMENTS, TERMS, NODE};
 ghost use Rattle.rules.specs.Lex.{letters};
 ghost use Rattle.rules.specs.Out.{found};
@@ -8,7 +8,7 @@ ghost use Rattle.rules.specs.Sexp.{atom, list};
 ghost use Rattle.rules.specs.Store.{keep};
 ghost use Rattle.rules.specs.State.{State, sort_of, abbreviated};
 ghost use Rattle.rules.specs.Read.{named, term, terms, compound, term_of, judgment};
-ghost use Rattle.terms.specs.Table.{made, tree, tree_at, Node};
+ghost use Rattle.terms.specs.Table.{tree, tree_at, Node};
 ghost use Rattle.terms.specs.Lent.{GoodStore, SameTables, made_of, terms_made};
 ghost use Rattle.reading.specs.Reader.{names_of};
 ghost use Rattle.reading.specs.Given.{ReadsTerm, ReadsDefs, ReadsNames, ReadsItem, ReadsItems};
@@ -17,7 +17,7 @@ ghost use Rattle.reading.specs.Heads.{ReadsAtom, Opens, OpenedAs};
 
 use crate::reader::Reader;
 use kernel::atoms::marked;
-use kernel::readers::{arity, constructor_named, output, predicate_named, same_sort};
+use kernel::readers::{arity, output};
 use questions::Question;
 use rules::{NODE, SYMBOLS};
 use sexp::items::Item;
@@ -26,37 +26,22 @@ use state::defs::def_named;
 use state::vars::{var_named, var_sort};
 use terms::store::{Store, Terms};
 
-// A term's number, and whether it is of the sort that was expected.
+// A term's number, and its sort.
 #[derive(Clone, Copy, Debug, PartialEq, Eq)]
 pub struct Typed {
     pub term: usize,
-    pub fits: bool,
+    pub sort: usize,
 }
 
-// The length of the node over some arguments, and whether they are those that its symbol takes.
-#[derive(Clone, Copy, Debug, PartialEq, Eq)]
-pub struct Arguments {
-    pub len: usize,
-    pub fits: bool,
-}
-
-// The node comes into the store, as a term of the sort that is given, where another is expected.
-fn keep_typed(
-    store: &mut Store<'_>,
-    node: &[u32],
-    sort: usize,
-    expected: usize,
-) -> Result<Typed, Question>
+// The node comes into the store, as a term of that sort.
+fn keep_typed(store: &mut Store<'_>, node: &[u32], sort: usize) -> Result<Typed, Question>
     requires { GoodStore store.old × Node store.old.mark.terms node.now }
     ensures same_tables { SameTables store.old store.new }
     ensures typed_as { (S : State) → sort ≡ sort_of S.theory S.vars (tree_at (made_of store.old) node.now) →
-        TypedAs store.old store.new S expected (keep (tree_at (made_of store.old) node.now) (made_of store.old)) result }
+        TypedAs store.old store.new S (keep (tree_at (made_of store.old) node.now) (made_of store.old)) result }
 {
     let term = store.keep(node)?;
-    Ok(Typed {
-        term,
-        fits: same_sort(sort, expected),
-    })
+    Ok(Typed { term, sort })
 }
 
 // The head of a node.
@@ -77,19 +62,16 @@ fn put_argument(node: &mut [u32], k: usize, t: usize)
     }
 }
 
-// The sort of argument k of symbol c, which takes `count`; 0 where it takes none there.
-fn input_or_none(inputs: &[u32], c: usize, k: usize, count: usize) -> usize
+// Whether symbol c, which takes `count` arguments, takes a term of that sort as argument k.
+fn takes(inputs: &[u32], c: usize, count: usize, k: usize, sort: usize) -> bool
     requires { (count ≤ ARGUMENTS) × (c < SYMBOLS) × (length inputs.now ≡ ARGUMENTS * SYMBOLS) }
-    ensures { result ≡ elim (ltb k count) [ true ↦ get_or inputs.now (ARGUMENTS * c + k) 0 | false ↦ 0 ] }
+    ensures { result ≡ ltb k count && eqb sort (get_or inputs.now (ARGUMENTS * c + k) 0) }
 {
-    if k >= count {
-        return 0;
-    }
-    inputs[rules::ARGUMENTS * c + k] as usize
+    k < count && sort == inputs[rules::ARGUMENTS * c + k] as usize
 }
 
 impl Reader<'_> {
-    // The sort of a term of the store; 0 for a judgment.
+    // The sort of a term of the store; 0 for a judgment, the definition's own number for that: sorts are numbered from 1 on.
     pub fn sort_of(&self, terms: &Terms<'_>, id: usize) -> usize
         requires { ReadsTerm self.now.symbols.now self.now.vars.now terms.now.index.now terms.now.words.now id }
         ensures { (g : ReadsTerm self.now.symbols.now self.now.vars.now terms.now.index.now terms.now.words.now id) →
@@ -103,67 +85,66 @@ impl Reader<'_> {
     }
 
     // The term that a marked atom abbreviates.
-    fn abbreviation(&self, terms: &Terms<'_>, name: &[u8], sort: usize) -> Result<Typed, Question>
+    fn abbreviation(&self, terms: &Terms<'_>, name: &[u8]) -> Result<Typed, Question>
         requires { ReadsDefs self.now.text.now self.now.symbols.now self.now.vars.now self.now.defs.now self.now.n terms.now.index.now terms.now.words.now terms.now.mark }
         ensures { (g : ReadsDefs self.now.text.now self.now.symbols.now self.now.vars.now self.now.defs.now self.now.n terms.now.index.now terms.now.words.now terms.now.mark) →
-            let t = terms.now in TypedBy t.index.now t.words.now t.index.now t.words.now t.mark t.mark g.S sort (found 22 (abbreviated g.S.defs name.now) (terms_made t)) result }
+            let t = terms.now in TypedBy t.index.now t.words.now t.index.now t.words.now t.mark t.mark g.S (found 22 (abbreviated g.S.defs name.now) (terms_made t)) result }
     {
         let Some(term) = def_named(self.text, self.defs, self.n.defs, name) else {
             return Err(Question::Spelling);
         };
-        Ok(Typed {
-            term,
-            fits: same_sort(self.sort_of(terms, term), sort),
-        })
+        let sort = self.sort_of(terms, term);
+        Ok(Typed { term, sort })
     }
 
     // The variable of that name, or else the constructor without arguments.
-    fn named(&self, store: &mut Store<'_>, name: &[u8], sort: usize) -> Result<Typed, Question>
+    fn named(&self, store: &mut Store<'_>, name: &[u8]) -> Result<Typed, Question>
         requires { ReadsNames self.now.theory.now self.now.goals.now self.now.text.now self.now.symbols.now self.now.vars.now self.now.n store.old.index.now store.old.words.now store.old.mark }
         ensures same_tables { SameTables store.old store.new }
         ensures typed_as { (g : ReadsNames self.now.theory.now self.now.goals.now self.now.text.now self.now.symbols.now self.now.vars.now self.now.n store.old.index.now store.old.words.now store.old.mark) →
-            TypedAs store.old store.new g.S sort (named g.S name.now (made_of store.old)) result }
+            TypedAs store.old store.new g.S (named g.S name.now (made_of store.old)) result }
     {
         if let Some(v) = var_named(self.goals, self.text, self.vars, self.n.vars, name) {
-            let node = [(SYMBOLS + v) as u32];
-            return keep_typed(store, &node, var_sort(self.vars, v), sort);
+            let term = store.keep_var(v)?;
+            let sort = var_sort(self.vars, v);
+            return Ok(Typed { term, sort });
         }
-        let Some(c) = constructor_named(self.theory, self.symbols, self.n.symbols, name) else {
+        let Some(c) = self.symbol_table().constructor_named(name) else {
             return Err(Question::Spelling);
         };
         if arity(self.symbols, c) != 0 {
             return Err(Question::Sorting);
         }
         let node = [c as u32];
-        keep_typed(store, &node, output(self.symbols, c), sort)
+        keep_typed(store, &node, output(self.symbols, c))
     }
 
     // The term that the atom at a place spells.
-    fn atomic(&self, store: &mut Store<'_>, start: usize, sort: usize) -> Result<Typed, Question>
+    fn atomic(&self, store: &mut Store<'_>, start: usize) -> Result<Typed, Question>
         requires { ReadsAtom (names_of self.now) self.now.n store.old.index.now store.old.words.now store.old.mark start }
         ensures same_tables { SameTables store.old store.new }
         ensures typed_as { (g : ReadsAtom (names_of self.now) self.now.n store.old.index.now store.old.words.now store.old.mark start) →
-            TypedAs store.old store.new g.S sort (term g.S (atom start (letters (drop start self.now.text.now))) (made_of store.old)) result }
+            TypedAs store.old store.new g.S (term g.S (atom start (letters (drop start self.now.text.now))) (made_of store.old)) result }
     {
         let end = lex::atom_end(self.text, start);
         let name = &self.text[start..end];
         if marked(self.text, start) {
-            return self.abbreviation(&store.terms(), name, sort);
+            return self.abbreviation(&store.terms(), name);
         }
-        self.named(store, name, sort)
+        self.named(store, name)
     }
 
     // The term that the first item spells.
     #[cycle(arguments_compound_term)]
-    pub fn term(&self, store: &mut Store<'_>, cells: &[u32], sort: usize) -> Result<Typed, Question>
+    pub fn term(&self, store: &mut Store<'_>, cells: &[u32]) -> Result<Typed, Question>
         requires { ReadsItem (names_of self.now) self.now.n store.old.index.now store.old.words.now store.old.mark cells.now }
         ensures same_tables { SameTables store.old store.new }
         ensures typed_as { (g : ReadsItem (names_of self.now) self.now.n store.old.index.now store.old.words.now store.old.mark cells.now) →
-            TypedAs store.old store.new g.S sort (term g.S g.x (made_of store.old)) result }
+            TypedAs store.old store.new g.S (term g.S g.x (made_of store.old)) result }
     {
         match items::item_at(cells, 0) {
-            Item::Atom(start) => self.atomic(store, start, sort),
-            Item::List(a, b) => self.compound(store, &cells[a..b], sort),
+            Item::Atom(start) => self.atomic(store, start),
+            Item::List(a, b) => self.compound(store, &cells[a..b]),
         }
     }
 
@@ -176,7 +157,7 @@ impl Reader<'_> {
         let Some(name) = items::head(self.text, cells) else {
             return Err(Question::Spelling);
         };
-        let Some(c) = constructor_named(self.theory, self.symbols, self.n.symbols, name) else {
+        let Some(c) = self.symbol_table().constructor_named(name) else {
             return Err(Question::Spelling);
         };
         if cells.len() == 1 {
@@ -194,7 +175,7 @@ impl Reader<'_> {
         let Some(name) = items::head(self.text, cells) else {
             return Err(Question::Spelling);
         };
-        let Some(p) = predicate_named(self.theory, self.symbols, self.n.symbols, name) else {
+        let Some(p) = self.symbol_table().predicate_named(name) else {
             return Err(Question::Spelling);
         };
         Ok(p)
@@ -202,22 +183,21 @@ impl Reader<'_> {
 
     // The constructor over its arguments that the items of a list spell.
     #[cycle(arguments_compound_term)]
-    fn compound(&self, store: &mut Store<'_>, cells: &[u32], sort: usize) -> Result<Typed, Question>
+    fn compound(&self, store: &mut Store<'_>, cells: &[u32]) -> Result<Typed, Question>
         requires { ReadsItems (names_of self.now) self.now.n store.old.index.now store.old.words.now store.old.mark cells.now }
         ensures same_tables { SameTables store.old store.new }
         ensures typed_as { (g : ReadsItems (names_of self.now) self.now.n store.old.index.now store.old.words.now store.old.mark cells.now) →
-            TypedAs store.old store.new g.S sort (compound g.S g.xs (made_of store.old)) result }
+            TypedAs store.old store.new g.S (compound g.S g.xs (made_of store.old)) result }
     {
         let c = self.constructor_first(cells)?;
         let mut node = [0u32; NODE];
         let args = self.arguments(store, &cells[1..], c, &mut node)?;
-        if !args.fits {
-            return Err(Question::Sorting);
-        }
-        keep_typed(store, &node[..args.len], output(self.symbols, c), sort)
+        let len = args.ok_or(Question::Sorting)?;
+        keep_typed(store, &node[..len], output(self.symbols, c))
     }
 
-    // The terms that the items spell, as the arguments of symbol c: the node over them, where they are as many as its inputs and each of its sort.
+    // The terms that the items spell, as the arguments of symbol c. Where they are as many as its inputs and each of its sort, the node is that of c over
+    // them, and what is answered is how long it is. `k` is counted beside the items, since the answer needs it: asked of them, it would be a second walk.
     #[cycle(arguments_compound_term)]
     fn arguments(
         &self,
@@ -225,7 +205,7 @@ impl Reader<'_> {
         cells: &[u32],
         c: usize,
         node: &mut [u32],
-    ) -> Result<Arguments, Question>
+    ) -> Result<Option<usize>, Question>
         requires { ReadsItems (names_of self.now) self.now.n store.old.index.now store.old.words.now store.old.mark cells.now × (c < self.now.n.symbols) × (length node.old ≡ NODE) }
         ensures same_tables { SameTables store.old store.new }
         ensures arguments_as { (g : ReadsItems (names_of self.now) self.now.n store.old.index.now store.old.words.now store.old.mark cells.now) →
@@ -236,16 +216,15 @@ impl Reader<'_> {
         let mut k = 0;
         let mut fits = true;
         for item in items::all(cells) {
-            let sort = input_or_none(self.inputs, c, k, count);
-            let typed = self.term(store, item, sort)?;
+            let typed = self.term(store, item)?;
             put_argument(node, k, typed.term);
-            fits &= typed.fits;
+            fits &= takes(self.inputs, c, count, k, typed.sort);
             k += 1;
         }
-        Ok(Arguments {
-            len: k + 1,
-            fits: fits & (k == count),
-        })
+        if !fits || k != count {
+            return Ok(None);
+        }
+        Ok(Some(k + 1))
     }
 
     // The term of that sort that the first item spells.
@@ -260,8 +239,8 @@ impl Reader<'_> {
         ensures read_as { (g : ReadsItem (names_of self.now) self.now.n store.old.index.now store.old.words.now store.old.mark cells.now) →
             ReadAs store.old store.new (term_of g.S g.x sort (made_of store.old)) result }
     {
-        let typed = self.term(store, cells, sort)?;
-        if !typed.fits {
+        let typed = self.term(store, cells)?;
+        if typed.sort != sort {
             return Err(Question::Sorting);
         }
         Ok(typed.term)
@@ -281,9 +260,7 @@ impl Reader<'_> {
         let p = self.predicate_first(inner)?;
         let mut node = [0u32; NODE];
         let read = self.arguments(store, &inner[1..], p, &mut node)?;
-        if !read.fits {
-            return Err(Question::Sorting);
-        }
-        Ok(store.keep(&node[..read.len])?)
+        let len = read.ok_or(Question::Sorting)?;
+        Ok(store.keep(&node[..len])?)
     }
 }

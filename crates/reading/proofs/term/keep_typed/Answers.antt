@@ -7,4 +7,4 @@ pub returns-in_err-term-clause-typed_as : goal.returns-in_err-term-clause-typed_
 returns-in_err-term-clause-typed_as c = λ S e. let p = err_from_is_err_and c.from_residual.result c.from_residual.ensures.1 in rw (p.1, p.2) (refused_stopped c.in_err-term.ensures.kept.says)
 
 pub returns-clause-typed_as : goal.returns-clause-typed_as
-returns-clause-typed_as c = λ S e. kept_typed S c.in_ok-term.ensures.kept.says e c.same_sort.ensures
+returns-clause-typed_as c = λ S e. kept_typed S c.in_ok-term.ensures.kept.says e

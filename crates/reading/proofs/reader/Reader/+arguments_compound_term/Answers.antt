@@ -1,13 +1,18 @@
-use mathlib.Core.Path.{refl, ◌∙◌}
+use mathlib.Core.Path.{refl, sym, ap, ◌∙◌}
+use mathlib.Core.Bool.{true≢false}
 use native.Mathlib.Omega.{arith}
 use Rattle.std.proofs.lemmas.Result.{err_from_is_err_and}
+use Rattle.std.specs.Prelude.{Err}
+use Rattle.kernel.proofs.Handed.{handed}
 use Rattle.terms.specs.On.{pure_stopped}
+use Rattle.reading.proofs.Missing.{there, absent, question_is}
 use Rattle.sexp.specs.Each.{here, over}
-use Rattle.reading.proofs.TermArguments.{known_symbol, symbol_small, going_begins, going_inputs, going_high, going_item, going_stops, going_put, going_on, going_ends, part_most}
+use Rattle.reading.proofs.TermArguments.{known_symbol, symbol_small, going_begins, going_inputs, going_high, going_item, going_stops, going_put, going_on, going_misfits, going_ends, part_most}
 use Rattle.reading.proofs.TermHeads.{rest_fewer}
 use Rattle.reading.proofs.TermBehind.{opens, rest_items, behind_stops, behind_misfits, behind_narrow, behind_length, behind_node, behind_typed}
 use Rattle.reading.proofs.TermItems.{item_there, atom_given, term_atomic, item_list, list_items, term_compounds}
 use Rattle.reading.proofs.reader.Reader.+arguments_compound_term.Goals as goal
+use Rattle.reading.proofs.reader.Reader.+arguments_compound_term.Goals.{arguments-then-not-fits-via-then-not-fits, arguments-then-not-fits-via-else-not-fits+then-k-count}
 
 pub arguments-arity-count-requires : goal.arguments-arity-count-requires
 arguments-arity-count-requires t c = known_symbol c.requires.0.reads c.requires.1
@@ -23,8 +28,8 @@ arguments-loop-item-init t c = rw (c.into_iter-item-iterator.ensures.into_iter_g
       (c.arity-count.ensures g.S.theory _ _ _ g.reads.spelling.held c.requires.1);
 }
 
-pub arguments-input_or_none-sort-requires : goal.arguments-input_or_none-sort-requires
-arguments-input_or_none-sort-requires t c = going_inputs (c.loop-item.invariant.going c.requires.0)
+pub arguments-takes-fits-requires : goal.arguments-takes-fits-requires
+arguments-takes-fits-requires t c = going_inputs (c.loop-item.invariant.going c.requires.0)
 
 pub arguments-term-requires : goal.arguments-term-requires
 arguments-term-requires t c = rw (here c.loop-item.invariant.cells c.in-Some.ensures.steps).is (omega (arith, part_most c.args.cells.now c.loop-item.item-iterator.at, c.decreases), going_item (c.loop-item.invariant.going c.requires.0) (here c.loop-item.invariant.cells c.in-Some.ensures.steps).inside)
@@ -34,7 +39,7 @@ arguments-returns-in_err-typed-clause-arguments_as t c = λ g. let p = err_from_
     rw (p.1, p.2) (going_stops (c.loop-item.invariant.going g) (here c.loop-item.invariant.cells c.in-Some.ensures.steps).inside _ _ _ _ _ (rw (here c.loop-item.invariant.cells c.in-Some.ensures.steps).is at c.in_err-typed.ensures.typed_as))
 
 pub arguments-put_argument-requires : goal.arguments-put_argument-requires
-arguments-put_argument-requires t c = going_put (c.loop-item.invariant.going c.requires.0) (here c.loop-item.invariant.cells c.in-Some.ensures.steps).inside _ _ _ c.input_or_none-sort.result _ _ (rw (here c.loop-item.invariant.cells c.in-Some.ensures.steps).is at c.in_ok-typed.ensures.typed_as)
+arguments-put_argument-requires t c = going_put (c.loop-item.invariant.going c.requires.0) (here c.loop-item.invariant.cells c.in-Some.ensures.steps).inside _ _ _ _ _ (rw (here c.loop-item.invariant.cells c.in-Some.ensures.steps).is at c.in_ok-typed.ensures.typed_as)
 
 pub arguments-overflow_add-k : goal.arguments-overflow_add-k
 arguments-overflow_add-k t c = omega (arith, going_high (c.loop-item.invariant.going c.requires.0), c.well_formed.1.1.0)
@@ -43,15 +48,22 @@ pub arguments-loop-item-preserved : goal.arguments-loop-item-preserved
 arguments-loop-item-preserved t c = record {
   cells = (here c.loop-item.invariant.cells c.in-Some.ensures.steps).same;
   same = (c.term.ensures.same_tables.0 ∙ c.loop-item.invariant.same.0, c.term.ensures.same_tables.1 ∙ c.loop-item.invariant.same.1);
-  going = λ g. going_on (c.loop-item.invariant.going g) (here c.loop-item.invariant.cells c.in-Some.ensures.steps).inside _ _ _ c.input_or_none-sort.result _ _ (rw (here c.loop-item.invariant.cells c.in-Some.ensures.steps).is at c.in_ok-typed.ensures.typed_as)
-      c.input_or_none-sort.ensures c.put_argument.new.node c.put_argument.ensures refl (here c.loop-item.invariant.cells c.in-Some.ensures.steps).behind;
+  going = λ g. going_on (c.loop-item.invariant.going g) (here c.loop-item.invariant.cells c.in-Some.ensures.steps).inside _ _ _ _ _ (rw (here c.loop-item.invariant.cells c.in-Some.ensures.steps).is at c.in_ok-typed.ensures.typed_as)
+      c.put_argument.new.node c.put_argument.ensures c.takes-fits.ensures refl (here c.loop-item.invariant.cells c.in-Some.ensures.steps).behind;
 }
 
 pub arguments-overflow_add-result : goal.arguments-overflow_add-result
 arguments-overflow_add-result t c = omega (arith, going_high (c.loop-item.invariant.going c.requires.0), c.well_formed.1.1.0)
 
+pub arguments-returns-then-not-fits-clause-arguments_as : goal.arguments-returns-then-not-fits-clause-arguments_as
+arguments-returns-then-not-fits-clause-arguments_as t c = λ g. going_misfits (c.loop-item.invariant.going g) (omega (arith, (over c.loop-item.invariant.cells c.in-None.ensures.steps)))
+    (λ f e. elim c.then-not-fits.branch [
+      | arguments-then-not-fits-via-then-not-fits w ↦ true≢false (sym f ∙ w.if-not-fits.true)
+      | arguments-then-not-fits-via-else-not-fits+then-k-count w ↦ w.if-k-count.true e
+    ])
+
 pub arguments-returns-clause-arguments_as : goal.arguments-returns-clause-arguments_as
-arguments-returns-clause-arguments_as t c = λ g. going_ends (c.loop-item.invariant.going g) (omega (arith, (over c.loop-item.invariant.cells c.in-None.ensures.steps))) refl
+arguments-returns-clause-arguments_as t c = λ g. going_ends (c.loop-item.invariant.going g) (omega (arith, (over c.loop-item.invariant.cells c.in-None.ensures.steps))) c.if-not-fits.false c.if-k-count.false
 
 pub compound-constructor_first-requires : goal.compound-constructor_first-requires
 compound-constructor_first-requires t c = opens c.requires
@@ -74,31 +86,30 @@ pub compound-returns-in_err-args-clause-typed_as : goal.compound-returns-in_err-
 compound-returns-in_err-args-clause-typed_as t c = λ g. let p = err_from_is_err_and c.from_residual-in_err-args.result c.from_residual-in_err-args.ensures.1 in
     rw (p.1, p.2) (behind_stops g.reads (c.in_ok-c.ensures (opens g)) _ _ _ _ _ c.in_err-args.ensures.arguments_as)
 
-pub compound-returns-then-not-args-clause-typed_as : goal.compound-returns-then-not-args-clause-typed_as
-compound-returns-then-not-args-clause-typed_as t c = λ g. behind_misfits g.reads (c.in_ok-c.ensures (opens g)) _ _ _ _ _ _ c.in_ok-args.ensures.arguments_as
-    c.if-not-args.true
+pub compound-returns-in_err-len-clause-typed_as : goal.compound-returns-in_err-len-clause-typed_as
+compound-returns-in_err-len-clause-typed_as t c = λ g. rw (handed c.from_residual-in_err-len.result c.from_residual-in_err-len.ensures ∙ ap Err (question_is _ _ c.ok_or.ensures.ok_part c.ok_or.ensures.value c.in_err-len.was))
+    (behind_misfits g.reads (c.in_ok-c.ensures (opens g)) _ _ _ _ (absent _ _ c.ok_or.ensures.ok_part c.in_err-len.was) c.in_ok-args.ensures.arguments_as)
 
 pub compound-slice_bounds-node-end : goal.compound-slice_bounds-node-end
 compound-slice_bounds-node-end t c = omega (
   arith,
-  behind_narrow c.requires.reads (c.in_ok-c.ensures (opens c.requires)) _ _ _ _ _ _ c.in_ok-args.ensures.arguments_as c.if-not-args.false,
+  behind_narrow c.requires.reads (c.in_ok-c.ensures (opens c.requires)) _ _ _ _ (there _ _ c.ok_or.ensures.ok_part c.in_ok-len.was) c.in_ok-args.ensures.arguments_as,
   c.arguments.auto.node,
 )
 
 pub compound-slice_bounds-keep_typed-end : goal.compound-slice_bounds-keep_typed-end
-compound-slice_bounds-keep_typed-end t c = behind_length c.requires.reads (c.in_ok-c.ensures (opens c.requires)) _ _ _ _ _ _ c.in_ok-args.ensures.arguments_as
-    c.if-not-args.false c.arguments.auto.node
+compound-slice_bounds-keep_typed-end t c = behind_length c.requires.reads (c.in_ok-c.ensures (opens c.requires)) _ _ _ _ (there _ _ c.ok_or.ensures.ok_part c.in_ok-len.was) c.in_ok-args.ensures.arguments_as
+    c.arguments.auto.node
 
 pub compound-output-requires : goal.compound-output-requires
 compound-output-requires t c = known_symbol c.requires.reads (c.in_ok-c.ensures (opens c.requires)).known
 
 pub compound-keep_typed-requires : goal.compound-keep_typed-requires
-compound-keep_typed-requires t c = behind_node c.requires.reads (c.in_ok-c.ensures (opens c.requires)) _ _ _ _ _ _ c.in_ok-args.ensures.arguments_as
-    c.if-not-args.false
+compound-keep_typed-requires t c = behind_node c.requires.reads (c.in_ok-c.ensures (opens c.requires)) _ _ _ _ (there _ _ c.ok_or.ensures.ok_part c.in_ok-len.was) c.in_ok-args.ensures.arguments_as
 
 pub compound-returns-clause-typed_as : goal.compound-returns-clause-typed_as
 compound-returns-clause-typed_as t c = λ g. let o = c.in_ok-c.ensures (opens g) in
-    behind_typed g.reads o _ _ _ _ _ _ c.in_ok-args.ensures.arguments_as c.if-not-args.false _ _ _ c.output.result c.args.sort c.keep_typed.result
+    behind_typed g.reads o _ _ _ _ (there _ _ c.ok_or.ensures.ok_part c.in_ok-len.was) c.in_ok-args.ensures.arguments_as _ _ _ c.output.result c.keep_typed.result
     (c.output.ensures g.S.theory _ _ _ g.reads.spelling.held o.known) c.keep_typed.ensures.typed_as
 
 pub term-item_at-requires : goal.term-item_at-requires
@@ -126,7 +137,7 @@ term-compound-requires t c = (
 )
 
 pub term-returns-in-Atom-clause-typed_as : goal.term-returns-in-Atom-clause-typed_as
-term-returns-in-Atom-clause-typed_as t c = λ g. term_atomic g c.item_at.ensures c.in-Atom.is _ _ _ c.args.sort c.atomic.result c.atomic.ensures.typed_as
+term-returns-in-Atom-clause-typed_as t c = λ g. term_atomic g c.item_at.ensures c.in-Atom.is _ _ _ c.atomic.result c.atomic.ensures.typed_as
 
 pub term-returns-in-List-clause-typed_as : goal.term-returns-in-List-clause-typed_as
-term-returns-in-List-clause-typed_as t c = λ g. term_compounds g c.item_at.ensures c.in-List.is _ _ _ c.args.sort c.compound.result c.compound.ensures.typed_as
+term-returns-in-List-clause-typed_as t c = λ g. term_compounds g c.item_at.ensures c.in-List.is _ _ _ c.compound.result c.compound.ensures.typed_as

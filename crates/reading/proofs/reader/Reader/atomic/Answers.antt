@@ -17,7 +17,7 @@ pub abbreviation-requires : goal.abbreviation-requires
 abbreviation-requires c = rw c.terms.ensures (reads_defs c.requires.reads)
 
 pub returns-then-marked-clause-typed_as : goal.returns-then-marked-clause-typed_as
-returns-then-marked-clause-typed_as c = λ g. atom_abbreviates g c.atom_end-end.ensures c.marked.ensures c.if-marked.true c.args.sort c.abbreviation.result
+returns-then-marked-clause-typed_as c = λ g. atom_abbreviates g c.atom_end-end.ensures c.marked.ensures c.if-marked.true c.abbreviation.result
     (rw c.terms.ensures at c.abbreviation.ensures)
 
 pub named-requires : goal.named-requires
@@ -25,4 +25,4 @@ named-requires c = reads_names c.requires.reads
 
 pub returns-clause-typed_as : goal.returns-clause-typed_as
 returns-clause-typed_as c = λ g. atom_names g c.atom_end-end.ensures c.marked.ensures c.if-marked.false c.named.new.store.index.now
-    c.named.new.store.words.now c.named.new.store.mark c.args.sort c.named.result c.named.ensures.typed_as
+    c.named.new.store.words.now c.named.new.store.mark c.named.result c.named.ensures.typed_as

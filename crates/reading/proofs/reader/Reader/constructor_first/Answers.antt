@@ -8,13 +8,13 @@ pub returns-in_default : goal.returns-in_default
 returns-in_default c = λ g. compound_nameless g (c.in_default.ensures g.xs g.holds).1
 
 pub constructor_named-requires : goal.constructor_named-requires
-constructor_named-requires c = symbols_named c.requires
+constructor_named-requires c = rw c.symbol_table.ensures (symbols_named c.requires)
 
 pub returns-in_default-constructor_named : goal.returns-in_default-constructor_named
-returns-in_default-constructor_named c = λ g. compound_missing g (c.in-Some.ensures g.xs g.holds).1 c.constructor_named.ensures c.in_default-constructor_named.is
+returns-in_default-constructor_named c = λ g. compound_missing g (c.in-Some.ensures g.xs g.holds).1 (rw c.symbol_table.ensures at c.constructor_named.ensures) c.in_default-constructor_named.is
 
 pub returns-then-cells-eq1 : goal.returns-then-cells-eq1
-returns-then-cells-eq1 c = λ g. compound_single g (c.in-Some.ensures g.xs g.holds).1 c.constructor_named.ensures c.in-Some-constructor_named.is c.if-cells-eq1.true
+returns-then-cells-eq1 c = λ g. compound_single g (c.in-Some.ensures g.xs g.holds).1 (rw c.symbol_table.ensures at c.constructor_named.ensures) c.in-Some-constructor_named.is c.if-cells-eq1.true
 
 pub returns : goal.returns
-returns c = λ g. compound_opened g (c.in-Some.ensures g.xs g.holds).1 c.constructor_named.ensures c.in-Some-constructor_named.is c.if-cells-eq1.false
+returns c = λ g. compound_opened g (c.in-Some.ensures g.xs g.holds).1 (rw c.symbol_table.ensures at c.constructor_named.ensures) c.in-Some-constructor_named.is c.if-cells-eq1.false

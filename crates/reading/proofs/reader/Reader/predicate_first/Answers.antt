@@ -8,10 +8,10 @@ pub returns-in_default : goal.returns-in_default
 returns-in_default c = λ g. judgment_nameless g (c.in_default.ensures g.xs g.holds).1
 
 pub predicate_named-requires : goal.predicate_named-requires
-predicate_named-requires c = symbols_named c.requires
+predicate_named-requires c = rw c.symbol_table.ensures (symbols_named c.requires)
 
 pub returns-in_default-predicate_named : goal.returns-in_default-predicate_named
-returns-in_default-predicate_named c = λ g. judgment_missing g (c.in-Some.ensures g.xs g.holds).1 c.predicate_named.ensures c.in_default-predicate_named.is
+returns-in_default-predicate_named c = λ g. judgment_missing g (c.in-Some.ensures g.xs g.holds).1 (rw c.symbol_table.ensures at c.predicate_named.ensures) c.in_default-predicate_named.is
 
 pub returns : goal.returns
-returns c = λ g. judgment_opened g (c.in-Some.ensures g.xs g.holds).1 c.predicate_named.ensures c.in-Some-predicate_named.is
+returns c = λ g. judgment_opened g (c.in-Some.ensures g.xs g.holds).1 (rw c.symbol_table.ensures at c.predicate_named.ensures) c.in-Some-predicate_named.is
