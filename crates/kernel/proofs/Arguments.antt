@@ -12,24 +12,29 @@ use Rattle.rules.specs.Limits.{ARGUMENTS, SORTS}
 use Rattle.rules.specs.Text.{same}
 use Rattle.rules.specs.Laws.Find.{first_some}
 use Rattle.rules.specs.Out.{ok, refuse, then}
-use Rattle.rules.specs.Sexp.{Sexp, Sexps, item, Name}
+use Rattle.rules.specs.Sexp.{Sexp, Sexps, count, item, Name}
 use Rattle.rules.specs.Theory.{Theory, no_name}
 use Rattle.rules.specs.Declare.{sorts}
 use Rattle.rules.specs.TheoryTables.{filled}
 use Rattle.rules.specs.Laws.Row.{filled_fits}
 use Rattle.rules.specs.Laws.Declaring.{proper, sort_of, sort_of_name, sorts_none, sorts_unknown, sorts_full, sorts_more, arguments_of}
-use Rattle.sexp.specs.Items.{Holds, item_of}
+use Rattle.sexp.specs.Encode.{encodes}
+use Rattle.sexp.specs.Items.{Holds, Held, item_of, item_at, behind}
 use Rattle.sexp.specs.Spelt.{Spelt}
-use Rattle.sexp.specs.WalkLaws.{ListIs, AtomIs}
+use Rattle.sexp.specs.WalkLaws.{Walk, walk_start, walk_over, ListIs, AtomIs}
+use Rattle.sexp.specs.Each.{Here}
+use Rattle.sexp.specs.declared.items.Each.{Each}
 use Rattle.sexp.specs.declared.items.Item.{Item}
 use Rattle.sexp.specs.NameRows.{NameRows}
 use Rattle.kernel.specs.Held.{SortsHeld, SomeSorts, Gathering, ArgumentsRead}
 use Rattle.questions.specs.declared.Question.{Question}
-use Rattle.questions.specs.declared.Question.TheVariants.{Declared}
+use Rattle.questions.specs.declared.Question.TheVariants.{Declared, Room}
+use Rattle.questions.specs.declared.Row.TheVariants.{Arguments}
 use Rattle.questions.specs.Numbers.{number_of, detail_of}
 use Rattle.sexp.specs.Never.{never}
 use Rattle.kernel.specs.SignatureRows.{sorts_rows, sorts_few}
-use Rattle.sexp.specs.FirstItem.{ItemFirst, none_left}
+use Rattle.sexp.specs.FirstItem.{SomeItem, ItemFirst, some_first, first_count}
+use Rattle.kernel.proofs.Turns.{turn_holds, turn_some, turn_first, turn_rest}
 
 -- what `sort` ensures
 abbrev pub SortTold : List ℕ → List ℕ → ℕ → Item → Result ℕ Question → Type 0
@@ -75,16 +80,9 @@ module _ {text sorts : List ℕ} {known : ℕ} {item : Item} {r : Result ℕ Que
     pub sort_unknown : {q : Question} → r ≡ Err q → Sortless T.sorts x q
     sort_unknown a = sort_nowhere T.sorts x (told x at e k T.sorts (sorts_rows h)) a
 
-pub arguments_none : (text cells row : List ℕ) (count : ℕ) (T : Theory) (xs : Sexps) → Holds text cells xs → length cells ≡ 0 → count ≤ ARGUMENTS →
-    ArgumentsRead row row count (sorts T xs count (tt {0})) (Ok count)
-arguments_none text cells row count T xs h e l =
-    record {
-      sorts = [];
-      is = ap (λ z. sorts T z count (tt {0})) (none_left h e) ∙ sorts_none T count (tt {0});
-      many = omega arith;
-      most = l;
-      cells = refl;
-    }
+-- some theory with these sorts
+abbrev only : List Name → Theory
+only ns = record { sorts = ns; symbols = []; rules = [] }
 
 -- the sort that the first item names
 module _ {text table cells : List ℕ} {known next : ℕ} {item : Item} {r : Result ℕ Question} (told : SortTold text table known item r) {xs : Sexps} (f : ItemFirst text cells xs item next) where
@@ -120,12 +118,76 @@ module _ {text table cells : List ℕ} {known next : ℕ} {item : Item} {r : Res
           }
       arguments_more row row' (Err e) l k = so_far l ∙ ap (λ q. then q (λ ss u. ok (s ∷ ss) u)) k
 
--- the items behind come next
-pub gathering_next : {text cells sorts : List ℕ} {known count next : ℕ} {xs : Sexps} {item : Item} (row : List ℕ) (s : ℕ) → ItemFirst text cells xs item next → SomeSorts text sorts known →
-    length row ≡ ARGUMENTS → count < ARGUMENTS →
-    Gathering text (take (length cells - next) (drop next cells)) sorts known (length (set row count s)) (count + 1)
-gathering_next {count = count} row s f h e l =
-    record { xs = f.ys; holds = f.rest; held = h; long = length-set row count s ∙ e; most = omega (arith, l) }
+-- Where the loop stands ----------------------------------------------------------------------------------------------------------
+
+-- k sorts are in the row: what the rest answers, all answer
+pub record Gathered (text cells : List ℕ) (T : Theory) (xs : Sexps) (row : List ℕ) (row' : List ℕ) (k at : ℕ) : Type 0 where
+  pub left : Sexps
+  pub walk : Walk text cells at left
+  pub many : k + count left ≡ count xs
+  pub few : k ≤ ARGUMENTS
+  pub onward : (last : List ℕ) (q : Result ℕ Question) → ArgumentsRead row' last k (sorts T left k (tt {0})) q → ArgumentsRead row last 0 (sorts T xs 0 (tt {0})) q
+
+-- the same for whatever theory the table holds
+pub record Gathers (text table : List ℕ) (known : ℕ) (cells row row' : List ℕ) (k at : ℕ) : Type 0 where
+  pub goes : (T : Theory) (xs : Sexps) → SortsHeld text table known T.sorts → Holds text cells xs → Gathered text cells T xs row row' k at
+  pub long : length row' ≡ length row
+
+pub gathers_start : {text table : List ℕ} {known : ℕ} {cells row : List ℕ} → Gathers text table known cells row row 0 0
+gathers_start = record {
+  goes = λ T xs h k. record { left = xs; walk = walk_start k; many = omega arith; few = omega arith; onward = λ last q a. a };
+  long = refl;
+}
+
+module _ {text table : List ℕ} {known : ℕ} {cells row row' : List ℕ} {k at : ℕ} (g : Gathers text table known cells row row' k at) where
+  -- behind the last item
+  pub gathers_over : length cells ≤ at → (n : ℕ) → ((xs : Sexps) → cells ≡ encodes xs → n ≡ count xs) → (T : Theory) (xs : Sexps) →
+      SortsHeld text table known T.sorts → Holds text cells xs → ArgumentsRead row row' 0 (sorts T xs 0 (tt {0})) (Ok n)
+  unfolding count
+  gathers_over l n c T xs h s =
+      let o = g.goes T xs h s in
+      let e = walk_over o.walk l in
+      let m : n ≡ k = omega (arith, c xs s.cells, o.many, ap count e) in
+      o.onward row' (Ok n) (record {
+        sorts = [];
+        is = ap (λ z. sorts T z k (tt {0})) e ∙ sorts_none T k (tt {0});
+        many = omega (arith, m);
+        most = omega (arith, m, o.few);
+        cells = refl;
+      })
+
+  module _ {item : List ℕ} {next : Each} (h : Here cells item at next) {r : Item} (f : r ≡ item_at item 0) {q : Result ℕ Question}
+      (told : SortTold text table known r q) where
+    module _ (T : Theory) (xs : Sexps) (s : SortsHeld text table known T.sorts) (w : Holds text cells xs) where
+      turn : ItemFirst text item (g.goes T xs s w).left r (behind 0 (item_at item 0))
+      turn = turn_first (g.goes T xs s w).walk h r f
+
+      pub gathers_unknown : {e : Question} → q ≡ Err e → ArgumentsRead row row' 0 (sorts T xs 0 (tt {0})) (Err e)
+      gathers_unknown {e} a = (g.goes T xs s w).onward row' (Err e) (arguments_unknown told turn T k s a)
+
+      pub gathers_full : (v : ℕ) → q ≡ Ok v → ARGUMENTS ≤ k → ArgumentsRead row row' 0 (sorts T xs 0 (tt {0})) (Err (Room Arguments))
+      gathers_full v a l = (g.goes T xs s w).onward row' (Err (Room Arguments)) (arguments_full told turn T k s v a l)
+
+      gathered_on : (v : ℕ) → q ≡ Ok v → k < ARGUMENTS → Gathered text cells T xs row (set row' k v) (k + 1) next.at
+      gathered_on v a l =
+          let o = g.goes T xs s w in
+          record {
+            left = turn.ys;
+            walk = turn_rest o.walk h turn;
+            many = omega (arith, o.many, first_count turn);
+            few = omega (arith, l);
+            onward = λ last p b. o.onward last p (arguments_more told turn T k s v a row' last p l b);
+          }
+
+    pub gathers_on : (v : ℕ) → q ≡ Ok v → k < ARGUMENTS → Gathers text table known cells row (set row' k v) (k + 1) next.at
+    gathers_on v a l = record { goes = λ T xs s w. gathered_on T xs s w v a l; long = length-set row' k v ∙ g.long }
+
+    pub gathers_small : (v : ℕ) → q ≡ Ok v → (s : SomeSorts text table known) → Held text cells → v ≤ SORTS
+    gathers_small v a s w = first_small told (turn (only s.0) w.0 s.1 w.1) v a s
+
+  -- the item is one of some list
+  pub gathers_item : {item : List ℕ} {next : Each} → Here cells item at next → (r : Item) → r ≡ item_at item 0 → SomeSorts text table known → Held text cells → SomeItem text r
+  gathers_item h r f s w = let o = g.goes (only s.0) w.0 s.1 w.1 in some_first r (turn_holds o.walk h) (turn_some o.walk h) f
 
 -- the answers of `arguments_at`
 pub arguments_atom : (T : Theory) (x : Sexp) {text : List ℕ} {p : ℕ} → AtomIs text x p → arguments_of T x ≡ refuse 11 0 (tt {0})

@@ -44,12 +44,11 @@ SomeSorts text table count = (ns : List Name) × SortsHeld text table count ns
 -- Symbols ------------------------------------------------------------------------------------------------------------------------
 
 -- items that name argument sorts, beside a row for them
-pub record Gathering (text cells sorts : List ℕ) (known room count : ℕ) : Type 0 where
+pub record Gathering (text cells sorts : List ℕ) (known room : ℕ) : Type 0 where
   pub xs : Sexps
   pub holds : Holds text cells xs
   pub held : SomeSorts text sorts known
   pub long : room ≡ ARGUMENTS
-  pub most : count ≤ ARGUMENTS
 
 -- so many argument sorts are in the row now
 pub record ArgumentsStored (before after : List ℕ) (count : ℕ) (given : Out (Unit {0}) (List ℕ)) (n : ℕ) : Type 0 where

@@ -20,30 +20,26 @@ use questions::{Question, Row};
 use sexp::items;
 use sexp::items::Item;
 
-// The sorts that the items name, into a row that has `count` of them.
+// The sorts that the items name, into an empty row: how many.
 fn argument_sorts(
     text: &[u8],
     cells: &[u32],
     sorts: &[u32],
     known: usize,
     row: &mut [u32],
-    count: usize,
 ) -> Result<usize, Question>
-    requires { Gathering text.now cells.now sorts.now known (length row.old) count }
+    requires { Gathering text.now cells.now sorts.now known (length row.old) }
     ensures { (T : Theory) (xs : Sexps) → SortsHeld text.now sorts.now known T.sorts → Holds text.now cells.now xs →
-        ArgumentsRead row.old row.new count (argument_sorts T xs count tt) result }
+        ArgumentsRead row.old row.new 0 (argument_sorts T xs 0 tt) result }
 {
-    if cells.is_empty() {
-        return Ok(count);
+    for (k, item) in items::all(cells).enumerate() {
+        let s = sort(text, items::item_at(item, 0), sorts, known)?;
+        if k >= rules::ARGUMENTS {
+            return Err(Question::Room(Row::Arguments));
+        }
+        row[k] = s as u32;
     }
-    let item = items::item_at(cells, 0);
-    let s = sort(text, item, sorts, known)?;
-    if count >= rules::ARGUMENTS {
-        return Err(Question::Room(Row::Arguments));
-    }
-    row[count] = s as u32;
-    let next = items::after(cells, 0);
-    argument_sorts(text, &cells[next..], sorts, known, row, count + 1)
+    Ok(items::count(cells))
 }
 
 // The sorts that the items of a declaration's third item name, into an empty row.
@@ -63,7 +59,7 @@ fn arguments_at(
     let Item::List(a, b) = items::nth(form, 2) else {
         return Err(Question::Declared);
     };
-    argument_sorts(text, &form[a..b], sorts, known, row, 0)
+    argument_sorts(text, &form[a..b], sorts, known, row)
 }
 
 // Stores a symbol, if there is room.

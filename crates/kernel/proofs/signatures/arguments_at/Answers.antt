@@ -21,7 +21,7 @@ slice_bounds-argument_sorts-end c = (nth_list c.requires.reaching.holds 2 (c.nth
 
 pub argument_sorts-requires : goal.argument_sorts-requires
 argument_sorts-requires c = let list = nth_list c.requires.reaching.holds 2 (c.nth.ensures c.requires.reaching.xs c.requires.reaching.holds.cells) c.requires.reaching.there c.in-List.is in
-    record { xs = list.items; holds = list.holds; held = c.requires.some_sorts; long = c.requires.row_len; most = omega arith }
+    record { xs = list.items; holds = list.holds; held = c.requires.some_sorts; long = c.requires.row_len }
 
 pub returns : goal.returns
 returns c = λ T xs h k n.
