@@ -5,7 +5,7 @@ use Rattle.std.specs.Prelude.{Option, Some as some, None as nothing, Result, Ok,
 use mathlib.Core.List.{List, [], ◌∷◌, ◌++◌}
 use native.Mathlib.Omega.{arith}
 use native.Mathlib.Numerals.{add-one}
-use lib.ListN.{length, take, drop, set, length-set, replicate}
+use lib.ListN.{length, drop, set, length-set, replicate}
 use native.Mathlib.Nat.{zero-add, zero-sub, sub-zero, suc-sub-suc}
 use lib.Seq.{sets, sets-eq}
 use Rattle.rules.specs.Limits.{ARGUMENTS, SORTS}
@@ -26,7 +26,7 @@ use Rattle.sexp.specs.Each.{Here}
 use Rattle.sexp.specs.declared.items.Each.{Each}
 use Rattle.sexp.specs.declared.items.Item.{Item}
 use Rattle.sexp.specs.NameRows.{NameRows}
-use Rattle.kernel.specs.Held.{SortsHeld, SomeSorts, Gathering, ArgumentsRead}
+use Rattle.kernel.specs.Held.{SortsHeld, SomeSorts, ArgumentsRead}
 use Rattle.questions.specs.declared.Question.{Question}
 use Rattle.questions.specs.declared.Question.TheVariants.{Declared, Room}
 use Rattle.questions.specs.declared.Row.TheVariants.{Arguments}

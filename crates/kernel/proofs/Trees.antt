@@ -1,28 +1,26 @@
 -- A term from its parts: what the readers of terms, arguments and judgments answer. Assumes nothing.
-use mathlib.Core.Path.{◌≡◌, refl, sym, ap, ◌∙◌}
-use Prim.Native.Nat.{ℕ, suc, ◌+◌, ◌-◌, ◌*◌, ◌<◌, ◌≤◌}
+use mathlib.Core.Path.{◌≡◌, sym, ap, ◌∙◌}
+use Prim.Native.Nat.{ℕ, suc, ◌+◌, ◌-◌, ◌<◌, ◌≤◌}
 use mathlib.Core.List.{List, [], ◌∷◌, ◌++◌}
 use native.Mathlib.Omega.{arith}
 use native.Mathlib.Numerals.{add-one}
 use lib.ListN.{length, get_or, take, drop, length-append}
 use lib.Seq.{drop-cons, take-take, take-append-le, take_all, length-take-le}
-use Rattle.rules.specs.Limits.{LENGTH, PATTERNS, ARGUMENTS}
+use Rattle.rules.specs.Limits.{LENGTH, PATTERNS}
 use Rattle.rules.specs.Out.{Out, ok, then}
 use Rattle.rules.specs.Sexp.{Sexp, Sexps, cons, count}
-use Rattle.rules.specs.Tree.{Tree, Trees, app, none, more}
+use Rattle.rules.specs.Tree.{Tree, Trees, app, more}
 use Rattle.rules.specs.Theory.{Theory, Symbol, no_symbol, inputs}
 use Rattle.rules.specs.TheoryTables.{prefix, prefixes}
-use Rattle.rules.specs.Laws.Row.{append_assoc, append-nil}
+use Rattle.rules.specs.Laws.Row.{append_assoc}
 use Rattle.rules.specs.Declare.{Reading, pattern, patterns}
-use Rattle.rules.specs.Laws.PatternSteps.{worded, patterns_none, patterns_more}
-use Rattle.sexp.specs.Items.{Holds}
+use Rattle.rules.specs.Laws.PatternSteps.{worded, patterns_more}
 use Rattle.sexp.specs.declared.items.Item.{Item}
 use Rattle.kernel.specs.Held.{SymbolsHeld}
 use Rattle.kernel.specs.Reading.{ReadSoFar, Written, Stopped, PatternRead, Opened, Placed, Arguing}
-use Rattle.kernel.specs.SignatureRows.{input_place}
 use Rattle.std.specs.Prelude.{Result, Ok, Err}
 use Rattle.questions.specs.declared.Question.{Question}
-use Rattle.sexp.specs.FirstItem.{ItemFirst, first_item, none_left}
+use Rattle.sexp.specs.FirstItem.{ItemFirst}
 
 -- some theory with these symbols
 abbrev pub symbolic : List Symbol → Theory
@@ -107,19 +105,6 @@ module _ (text : List ℕ) {given : Out Reading Trees} (this : Out Reading Tree)
 
 -- Arguments ----------------------------------------------------------------------------------------------------------------------
 
-pub arguments_none : {text cells table P : List ℕ} {n used : ℕ} {R : Reading} {zs : Sexps} (T : Theory) (ss : List ℕ) → Holds text cells zs → length cells ≡ 0 → ReadSoFar text table n used R →
-    Written prefixes text table P P used (patterns T zs ss R) n used
-unfolding prefix
-arguments_none {P = P} {used = used} {R = R} T ss h l k =
-    record {
-      tree = none;
-      now = R;
-      is = ap (λ z. patterns T z ss R) (none_left h l) ∙ patterns_none R T ss;
-      reads = k;
-      words = sym (append-nil (take used P));
-      long = refl;
-    }
-
 -- the sort of the next argument
 module _ {ss : List Symbol} {c k : ℕ} {zs : Sexps} (p : Placed ss c k zs) {x : Sexp} {ys : Sexps} (e : zs ≡ cons x ys) where
   count_more : count zs ≡ suc (count ys)
@@ -131,11 +116,6 @@ module _ {ss : List Symbol} {c k : ℕ} {zs : Sexps} (p : Placed ss c k zs) {x :
 
   pub placed_next : Placed ss c (k + 1) ys
   placed_next = record { known = p.known; many = omega (arith, p.many, count_more) }
-
--- where the sort of the next argument stands
-pub next_place : {text cells symbols inputs table : List ℕ} {known n room used c k : ℕ} → Arguing text cells symbols inputs known table n room used c k → (length cells ≡ 0 → ⊥) →
-    ARGUMENTS * c + k < length inputs
-next_place {c = c} {k = k} a l = input_place a.given.held.1 c k a.placed.known (placed_inside a.placed (first_item _ a.given.holds l refl).is)
 
 module _ {text cells : List ℕ} {zs : Sexps} {item : Item} {next k c sort : ℕ} (T : Theory) (R : Reading) (f : ItemFirst text cells zs item next) (p : Placed T.symbols c k zs)
     (s : sort ≡ get_or (get_or T.symbols c no_symbol).inputs k 0) where
@@ -162,20 +142,10 @@ module _ {text cells : List ℕ} {zs : Sexps} {item : Item} {next k c sort : ℕ
 -- the arguments behind a head
 pub arguing_inner : {text cells symbols inputs table P M : List ℕ} {known n used c next : ℕ} {R : Reading} {ss : List Symbol} {zs : Sexps} {given : Out Reading Tree} →
     (o : Opened text cells P M used (symbolic ss) R zs given c next) → SymbolsHeld text symbols inputs known ss → ReadSoFar text table n used R → length text ≤ LENGTH → length P ≡ PATTERNS →
-    Arguing text (take (length cells - 1) (drop 1 cells)) symbols inputs known table n (length M) next c 0
+    Arguing text (take (length cells - 1) (drop 1 cells)) symbols inputs known table n (length M) next c
 arguing_inner {P = P} {used = used} {R = R} {ss = ss} o h r s l =
     let m : used ≤ length P = omega (arith, r.room, l) in
     record {
       given = record { zs = o.others; holds = o.rest; held = (ss, h); so_far = worded R; reads = opened_reads o m r; short = s; long = o.long ∙ l };
       placed = opened_placed o m;
-    }
-
--- the arguments behind one
-pub arguing_rest : {text cells symbols inputs table table' P M : List ℕ} {known n used c k next v w : ℕ} {item : Item} {given : Out Reading Tree}
-    (a : Arguing text cells symbols inputs known table n (length P) used c k) (f : ItemFirst text cells a.given.zs item next) → Written prefix text table' P M used given v w →
-    Arguing text (take (length cells - next) (drop next cells)) symbols inputs known table' v (length M) w c (k + 1)
-arguing_rest a f q =
-    record {
-      given = record { zs = f.ys; holds = f.rest; held = a.given.held; so_far = q.now; reads = q.reads; short = a.given.short; long = q.long ∙ a.given.long };
-      placed = placed_next a.placed f.is;
     }

@@ -212,10 +212,10 @@ pub record Placed (ss : List Symbol) (c k : ℕ) (zs : Sexps) : Type 0 where
   pub many : k + count zs ≡ length (get_or ss c no_symbol).inputs
 
 -- what the reader of arguments is given
-pub record Arguing (text cells symbols inputs : List ℕ) (known : ℕ) (table : List ℕ) (count room used c k : ℕ) : Type 0 where
+pub record Arguing (text cells symbols inputs : List ℕ) (known : ℕ) (table : List ℕ) (count room used c : ℕ) : Type 0 where
   pub given : Patterning text cells symbols inputs known table count room used
-  pub placed : Placed given.held.0 c k given.zs
+  pub placed : Placed given.held.0 c 0 given.zs
 
-abbrev pub ArgumentsAt : RuleReader → List ℕ → ℕ → ℕ → Type 0
-ArgumentsAt s cells c k =
-    Arguing s.known.text.now cells s.known.rows.now s.known.inputs.now s.known.count s.vars.now s.count (length s.patterns.now) s.used c k
+abbrev pub ArgumentsAt : RuleReader → List ℕ → ℕ → Type 0
+ArgumentsAt s cells c =
+    Arguing s.known.text.now cells s.known.rows.now s.known.inputs.now s.known.count s.vars.now s.count (length s.patterns.now) s.used c

@@ -1,4 +1,4 @@
-// Terms and judgments of a rule: a symbol's word before its arguments' words. The rest of a list goes on as a part of its cells.
+// Terms and judgments of a rule: a symbol's word before its arguments' words.
 ghost use Rattle.std.specs.Prelude.{◌≡◌, ◌^◌, ◌<◌, length, drop};
 ghost use Rattle.rules.specs.Sexp.{Sexp, Sexps, list, cons};
 ghost use Rattle.rules.specs.Theory.{Theory, inputs as inputs_of};
@@ -81,27 +81,25 @@ impl RuleReader<'_, '_> {
             Item::List(a, b) => {
                 let inner = &cells[a..b];
                 let c = self.open_term(inner, sort)?;
-                self.arguments(&inner[1..], c, 0)
+                self.arguments(&inner[1..], c)
             }
         }
     }
 
-    // The arguments of symbol c that the items spell, from its k-th input on.
+    // The arguments of symbol c that the items spell; they are as many as its inputs.
     #[cycle(arguments_term)]
-    fn arguments(&mut self, cells: &[u32], c: usize, k: usize) -> Result<(), Question>
-        requires { ArgumentsAt self.old cells.now c k }
+    fn arguments(&mut self, cells: &[u32], c: usize) -> Result<(), Question>
+        requires { ArgumentsAt self.old cells.now c }
         ensures same_tables { SameTables self.old self.new }
         ensures read { (T : Theory) (R : Reading) (zs : Sexps) → Knows self.old.known T.symbols → ReadTo self.old R →
-            Holds self.old.known.text.now cells.now zs → Placed T.symbols c k zs →
-            PartRead prefixes self.old self.new (patterns_of T zs (drop k (inputs_of T c)) R) result }
+            Holds self.old.known.text.now cells.now zs → Placed T.symbols c 0 zs →
+            PartRead prefixes self.old self.new (patterns_of T zs (inputs_of T c) R) result }
     {
-        if cells.is_empty() {
-            return Ok(());
+        for (k, item) in items::all(cells).enumerate() {
+            let sort = self.known.inputs[rules::ARGUMENTS * c + k] as usize;
+            self.term(item, sort)?;
         }
-        let sort = self.known.inputs[rules::ARGUMENTS * c + k] as usize;
-        self.term(cells, sort)?;
-        let next = items::after(cells, 0);
-        self.arguments(&cells[next..], c, k + 1)
+        Ok(())
     }
 
     // The judgment that the items of a list spell.
@@ -113,6 +111,6 @@ impl RuleReader<'_, '_> {
             PartRead prefix self.old self.new (predicated T zs R) result }
     {
         let p = self.open_judgment(cells)?;
-        self.arguments(&cells[1..], p, 0)
+        self.arguments(&cells[1..], p)
     }
 }

@@ -1,4 +1,4 @@
-use mathlib.Core.Path.{refl, sym}
+use mathlib.Core.Path.{refl}
 use native.Mathlib.Omega.{arith}
 use Rattle.sexp.specs.Each.{here, over}
 use Rattle.kernel.specs.SignatureRows.{sorts_rows}

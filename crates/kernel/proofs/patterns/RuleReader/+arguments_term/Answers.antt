@@ -1,71 +1,81 @@
-use mathlib.Core.Path.{refl, sym}
+use mathlib.Core.Path.{refl}
 use Prim.Native.Nat.{◌-◌, ◌≤◌}
 use native.Mathlib.Omega.{arith}
 use lib.ListN.{length, take, drop}
-use borrow.Author.Tests.{eqb-true, eqb-false}
 use Rattle.rules.specs.Laws.PatternSteps.{worded}
 use Rattle.sexp.specs.WalkLaws.{walk_start, walk_list, part_shorter}
-use Rattle.kernel.specs.SignatureRows.{input_cell}
-use Rattle.sexp.specs.FirstItem.{first_of, first_item, rest_shorter, atom_first, holds_first, some_list, cons_first}
+use Rattle.sexp.specs.FirstItem.{rest_shorter, atom_first, some_list, cons_first}
+use Rattle.std.proofs.Common.{rules}
 use Rattle.kernel.proofs.Handed.{handed}
-use Rattle.kernel.proofs.Trees.{symbolic, list_read, opened_reads, opened_placed, arguments_none, placed_inside, next_place, placed_next, arguments_stopped, arguments_read, arguing_inner, arguing_rest}
+use Rattle.sexp.specs.Each.{here, over, item_long}
+use Rattle.kernel.proofs.Argued.{arguments_start, arguments_over, argument_place, argument_some, argument_asks, arguments_stop, arguments_on}
+use Rattle.kernel.proofs.Premised.{same_on}
+use Rattle.kernel.proofs.Trees.{symbolic, list_read, opened_reads, opened_placed, arguing_inner}
 use Rattle.kernel.proofs.patterns.RuleReader.+arguments_term.Goals as goal
 
-pub arguments-returns-then-is_empty-clause-read : goal.arguments-returns-then-is_empty-clause-read
-arguments-returns-then-is_empty-clause-read t c = λ T R zs h r k p. arguments_none T _ k (eqb-true _ 0 (sym c.if-is_empty.ensures)) r
+pub arguments-loop-k-init : goal.arguments-loop-k-init
+arguments-loop-k-init t c = rw (c.into_iter-k-iterator.ensures.into_iter_gives, c.enumerate-k-items.ensures.source, c.enumerate-k-items.ensures.count, c.all.ensures.0, c.all.ensures.1)
+    record { cells = refl; going = record { same = record { known = refl; vars = refl; patterns = refl }; arguments = arguments_start _ _ _ _ _ _ _ _ _ _ } }
 
 pub arguments-overflow_mul-sort : goal.arguments-overflow_mul-sort
-arguments-overflow_mul-sort t c = omega (arith, next_place c.requires (eqb-false _ 0 (sym c.if-is_empty.ensures)), c.well_formed)
+arguments-overflow_mul-sort t c =
+    let steps = c.in-Some.ensures.steps in
+    let h = here c.loop-k.invariant.cells steps.0 in
+    omega (arith, argument_place c.loop-k.invariant.going.arguments c.requires h, steps.1, c.well_formed)
 
 pub arguments-overflow_add-sort : goal.arguments-overflow_add-sort
-arguments-overflow_add-sort t c = omega (arith, next_place c.requires (eqb-false _ 0 (sym c.if-is_empty.ensures)), c.well_formed)
+arguments-overflow_add-sort t c =
+    let steps = c.in-Some.ensures.steps in
+    let h = here c.loop-k.invariant.cells steps.0 in
+    omega (arith, argument_place c.loop-k.invariant.going.arguments c.requires h, steps.1, c.well_formed)
 
 pub arguments-offset_bounds-self-c : goal.arguments-offset_bounds-self-c
-arguments-offset_bounds-self-c t c = omega (arith, next_place c.requires (eqb-false _ 0 (sym c.if-is_empty.ensures)), c.well_formed)
+arguments-offset_bounds-self-c t c =
+    let steps = c.in-Some.ensures.steps in
+    let h = here c.loop-k.invariant.cells steps.0 in
+    omega (arith, argument_place c.loop-k.invariant.going.arguments c.requires h, steps.1, c.well_formed)
 
 pub arguments-bounds-self-c : goal.arguments-bounds-self-c
-arguments-bounds-self-c t c = next_place c.requires (eqb-false _ 0 (sym c.if-is_empty.ensures))
+arguments-bounds-self-c t c =
+    let steps = c.in-Some.ensures.steps in
+    let h = here c.loop-k.invariant.cells steps.0 in
+    rw (steps.1, c.loop-k.invariant.going.same.known) (argument_place c.loop-k.invariant.going.arguments c.requires h)
 
-pub arguments-returns-in_err-term-clause-read : goal.arguments-returns-in_err-term-clause-read
-arguments-returns-in_err-term-clause-read t c = λ T R zs h r k p.
-    let first = first_item _ k (eqb-false _ 0 (sym c.if-is_empty.ensures)) refl in
-    rw (handed c.from_residual.result c.from_residual.ensures)
-    (arguments_stopped T R first p (input_cell h c.args.c c.args.k p.known (placed_inside p first.is)) c.args.self.now.used
-    c.args.self.now.patterns.now (omega (arith, r.room, c.requires.given.long)) (c.in_err-term.ensures.read T R _ _ h r (holds_first first k)))
-
-pub arguments-offset_bounds-cells-next : goal.arguments-offset_bounds-cells-next
-arguments-offset_bounds-cells-next t c =
-    omega (arith, (first_of _ _ c.requires.given.holds (eqb-false _ 0 (sym c.if-is_empty.ensures)) refl c.after-next.ensures).high, c.well_formed)
-
-pub arguments-slice_bounds-arguments-count : goal.arguments-slice_bounds-arguments-count
-arguments-slice_bounds-arguments-count t c = (first_of _ _ c.requires.given.holds (eqb-false _ 0 (sym c.if-is_empty.ensures)) refl c.after-next.ensures).high
-
-pub arguments-slice_bounds-arguments-start : goal.arguments-slice_bounds-arguments-start
-arguments-slice_bounds-arguments-start t c = (first_of _ _ c.requires.given.holds (eqb-false _ 0 (sym c.if-is_empty.ensures)) refl c.after-next.ensures).high
-
-pub arguments-overflow_add-k : goal.arguments-overflow_add-k
-arguments-overflow_add-k t c = omega (arith, next_place c.requires (eqb-false _ 0 (sym c.if-is_empty.ensures)), c.well_formed)
-
-pub arguments-arguments-requires : goal.arguments-arguments-requires
-arguments-arguments-requires t c =
-    let some = eqb-false _ 0 (sym c.if-is_empty.ensures) in
-    let first = first_of _ _ c.requires.given.holds some refl c.after-next.ensures in (
-      omega (arith, rest_shorter c.args.cells.now c.after-next.result first.on first.high, c.decreases),
-      rw c.in_ok-term.ensures.same_tables.known
-          (arguing_rest c.requires first
-          (c.in_ok-term.ensures.read (symbolic c.requires.given.held.0) c.requires.given.so_far _ _ c.requires.given.held.1
-          c.requires.given.reads (holds_first (first_item _ c.requires.given.holds some refl) c.requires.given.holds))),
+pub arguments-term-requires : goal.arguments-term-requires
+arguments-term-requires t c =
+    let h = here c.loop-k.invariant.cells c.in-Some.ensures.steps.0 in (
+      omega (arith, item_long c.args.cells.now _ c.loop-k.k-iterator.iter.at h.is, c.decreases),
+      (
+        rw c.loop-k.invariant.going.same.known (argument_asks c.loop-k.invariant.going.arguments c.requires h),
+        (argument_some c.loop-k.invariant.going.arguments c.requires h, search rules),
+      ),
     )
 
+pub arguments-returns-in_err-term-clause-read : goal.arguments-returns-in_err-term-clause-read
+arguments-returns-in_err-term-clause-read t c =
+    let steps = c.in-Some.ensures.steps in
+    let h = here c.loop-k.invariant.cells steps.0 in
+    let known = c.loop-k.invariant.going.same.known in
+    λ T R zs s y b p. rw (handed c.from_residual.result c.from_residual.ensures)
+    (arguments_stop c.loop-k.invariant.going.arguments c.requires h _ _
+    (λ T R y ys s r b. rw (steps.1, known) at (c.in_err-term.ensures.read T R y ys (rw known s) (rw known r) (rw known b))) T R zs s y b p)
+
+pub arguments-loop-k-preserved : goal.arguments-loop-k-preserved
+arguments-loop-k-preserved t c =
+    let steps = c.in-Some.ensures.steps in
+    let h = here c.loop-k.invariant.cells steps.0 in
+    let known = c.loop-k.invariant.going.same.known in
+    record {
+      cells = h.same;
+      going = record {
+        same = same_on c.loop-k.invariant.going.same c.in_ok-term.ensures.same_tables;
+        arguments = rw steps.2 (arguments_on c.loop-k.invariant.going.arguments c.requires h
+            (λ T R y ys s r b. rw (steps.1, known) at (c.in_ok-term.ensures.read T R y ys (rw known s) (rw known r) (rw known b))));
+      };
+    }
+
 pub arguments-returns-clause-read : goal.arguments-returns-clause-read
-arguments-returns-clause-read t c = λ T R zs h r k p.
-    let known = c.in_ok-term.ensures.same_tables.known in
-    let first = first_of _ _ k (eqb-false _ 0 (sym c.if-is_empty.ensures)) refl c.after-next.ensures in
-    let written = c.in_ok-term.ensures.read T R _ _ h r (holds_first first k) in
-    arguments_read T R first p (input_cell h c.args.c c.args.k p.known (placed_inside p first.is)) c.args.self.now.used
-    c.args.self.now.patterns.now (omega (arith, r.room, c.requires.given.long)) written
-    (omega (arith, written.reads.room, written.long, c.requires.given.long)) _ _ _ _ c.arguments.result
-    (rw known at (c.arguments.ensures.read T written.now _ (rw known h) (rw known written.reads) (rw known first.rest) (placed_next p first.is)))
+arguments-returns-clause-read t c = arguments_over c.loop-k.invariant.going.arguments (over c.loop-k.invariant.cells c.in-None.ensures.steps.0)
 
 pub term-atomic-requires-clause-atom : goal.term-atomic-requires-clause-atom
 term-atomic-requires-clause-atom t c =
