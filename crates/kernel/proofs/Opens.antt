@@ -150,14 +150,14 @@ module _ (T : Theory) (R : Reading) {text cells : List ℕ} {zs : Sexps} (P : Li
               long = ap length k.1 ∙ length-set P used c;
             }
 
-        pub judgment_full : {e : Row} → (PATTERNS ≤ used) × (Q ≡ P) × (e ≡ PatternWords) →
+        pub judgment_full : {e : Row} {next : ℕ} → (PATTERNS ≤ used) × (Q ≡ P) × (next ≡ used) × (e ≡ PatternWords) →
             Stopped P Q used (predicated T zs R) (number_of (Room e)) (detail_of (Room e))
         unfolding then
         judgment_full k =
             record {
               now = R;
               is = asks_so ∙ ap (λ z. then z (λ u U. then (patterns T f.others (inputs T c) U) (λ ts W. ok (app c ts) W))) (word_full R (omega (arith, w, k.0)))
-                  ∙ (λ i. refuse 60 (detail_of (Room (sym k.2 i))) R);
+                  ∙ (λ i. refuse 60 (detail_of (Room (sym k.3 i))) R);
               words = ap (take used) k.1;
               long = ap length k.1;
             }

@@ -82,14 +82,14 @@ module _ (text : List ℕ) (start end sort : ℕ) (e : end ≡ start + length (l
             long = ap length k.1 ∙ length-set P used (SYMBOLS + i);
           }
 
-      pub variable_full : {used : ℕ} (P Q : List ℕ) {e : Row} → R.words ≡ used → (PATTERNS ≤ used) × (Q ≡ P) × (e ≡ PatternWords) →
+      pub variable_full : {used : ℕ} (P Q : List ℕ) {e : Row} (next : ℕ) → R.words ≡ used → (PATTERNS ≤ used) × (Q ≡ P) × (next ≡ used) × (e ≡ PatternWords) →
           Stopped P Q used (variable (name_from text start) sort R) (number_of (Room e)) (detail_of (Room e))
       unfolding then
-      variable_full {used} P Q {e} w k =
+      variable_full {used} P Q {e} next w k =
           record {
             now = met.now;
             is = so ∙ ap (λ z. then z (λ u W. ok (var i) W)) (word_full met.now (omega (arith, met.words, w, k.0)))
-                ∙ (λ i. refuse 60 (detail_of (Room (sym k.2 i))) met.now);
+                ∙ (λ i. refuse 60 (detail_of (Room (sym k.3 i))) met.now);
             words = ap (take used) k.1;
             long = ap length k.1;
           }
@@ -159,13 +159,13 @@ module _ (text : List ℕ) (start end sort arity : ℕ) (e : end ≡ start + len
               long = ap length k.1 ∙ length-set P used c;
             }
 
-        pub head_full : {e : Row} → (PATTERNS ≤ used) × (Q ≡ P) × (e ≡ PatternWords) →
+        pub head_full : {e : Row} {next : ℕ} → (PATTERNS ≤ used) × (Q ≡ P) × (next ≡ used) × (e ≡ PatternWords) →
             Stopped P Q used (head T sort arity (letters (drop start text)) R) (number_of (Room e)) (detail_of (Room e))
         unfolding then
         head_full k =
             record {
               now = R;
-              is = head_so ∙ ap (λ z. then z (λ u W. ok c W)) (word_full R (omega (arith, w, k.0))) ∙ (λ i. refuse 60 (detail_of (Room (sym k.2 i))) R);
+              is = head_so ∙ ap (λ z. then z (λ u W. ok c W)) (word_full R (omega (arith, w, k.0))) ∙ (λ i. refuse 60 (detail_of (Room (sym k.3 i))) R);
               words = ap (take used) k.1;
               long = ap length k.1;
             }

@@ -51,7 +51,7 @@ pub record WordFits (room cell : ℕ) : Type 0 where
 -- the words before and after, and how many of them are used
 abbrev pub WordPut : List ℕ → List ℕ → ℕ → ℕ → ℕ → Result (Unit {0}) Row → Type 0
 WordPut before after used next cell (Ok u) = (used < PATTERNS) × (after ≡ set before used cell) × (next ≡ used + 1)
-WordPut before after used next cell (Err e) = (PATTERNS ≤ used) × (after ≡ before) × (e ≡ PatternWords)
+WordPut before after used next cell (Err e) = (PATTERNS ≤ used) × (after ≡ before) × (next ≡ used) × (e ≡ PatternWords)
 
 -- Variables ----------------------------------------------------------------------------------------------------------------------
 

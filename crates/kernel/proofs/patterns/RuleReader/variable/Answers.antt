@@ -37,7 +37,7 @@ word-requires c = record {
 pub returns-in_err-word-clause-read : goal.returns-in_err-word-clause-read
 returns-in_err-word-clause-read c = λ R h. rw (handed c.from_residual-in_err-word.result c.from_residual-in_err-word.ensures)
     (variable_full c.args.self.now.known.text.now c.args.start _ c.args.sort c.atom_end-end.ensures R c.if-end-start-lt2.false _ _
-    (c.in_ok-i.ensures.met R _ h.held (atom_spans _ _ _ c.requires.inside c.atom_end-end.ensures)) _ _ h.words
+    (c.in_ok-i.ensures.met R _ h.held (atom_spans _ _ _ c.requires.inside c.atom_end-end.ensures)) _ _ c.word.new.self.used h.words
     (rw (← c.in_ok-i.ensures.same_words.patterns, ← c.in_ok-i.ensures.same_words.used) c.in_err-word.ensures.put))
 
 pub returns-clause-read : goal.returns-clause-read
