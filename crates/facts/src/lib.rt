@@ -2,7 +2,7 @@
 // takes it by value.
 #![tactic(auto)]
 
-ghost use Rattle.std.specs.Prelude.{◌≡◌, not, ◌<◌, ◌≤◌, eqb, length, get_or, set, Some, None};
+ghost use Rattle.std.specs.Prelude.{◌≡◌, not, ◌<◌, ◌≤◌, eqb, length, get_or, set, Some};
 ghost use Rattle.facts.specs.declared.Fact.{Fact};
 ghost use Rattle.facts.specs.Table.{blank, appended, zeroed};
 

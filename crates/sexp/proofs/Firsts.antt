@@ -1,11 +1,11 @@
 -- The first item of a list, as `head` looks at it. Assumes nothing.
-use mathlib.Core.Path.{◌≡◌, refl, sym, ap, ◌∙◌}
-use Prim.Native.Nat.{ℕ, ◌+◌, ◌-◌, ◌≤◌, ◌<◌}
+use mathlib.Core.Path.{◌≡◌, sym, ap, ◌∙◌}
+use Prim.Native.Nat.{ℕ, ◌+◌, ◌-◌, ◌≤◌}
 use mathlib.Core.List.{List}
 use native.Mathlib.Omega.{arith}
 use lib.ListN.{length, take, drop}
 use Rattle.rules.specs.Lex.{letters}
-use Rattle.rules.specs.Sexp.{Sexp, Sexps, atom, list, nil, cons, item}
+use Rattle.rules.specs.Sexp.{Sexps, atom, list, nil, cons, item}
 use Rattle.sexp.specs.Items.{Holds, item_at}
 use Rattle.sexp.specs.ItemLaws.{More}
 use Rattle.sexp.specs.WalkLaws.{Walk, walk_start, walk_more, walk_over, walk_atom, walk_list, Span, span}

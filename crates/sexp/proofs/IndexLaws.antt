@@ -3,12 +3,12 @@ use mathlib.Core.Path.{◌≡◌, refl, sym, ap, ◌∙◌}
 use mathlib.Core.Bool.{Bool, true, false, ◌&&◌}
 use Rattle.std.specs.Prelude.{Option, Some as some, None as nothing}
 use mathlib.Core.List.{List, [], ◌∷◌}
-use Prim.Native.Nat.{ℕ, ◌+◌, ◌-◌, ◌*◌, ◌/◌, ◌^◌, ◌≤◌, ◌<◌}
+use Prim.Native.Nat.{ℕ, ◌+◌, ◌-◌, ◌*◌, ◌^◌, ◌≤◌, ◌<◌}
 use native.Mathlib.Omega.{arith}
 use lib.ListN.{length, get_or, take, drop, drop_of_length-le}
 use lib.Seq.{take_all}
-use lib.Dec.{ltb, leb}
-use borrow.Author.Tests.{eq-eqb, ne_eqb, le-leb, lt-leb, lt-ltb, le-ltb}
+use lib.Dec.{ltb}
+use borrow.Author.Tests.{eq-eqb, ne_eqb, lt-ltb, le-ltb}
 use Rattle.rules.specs.Index.{digit, digits, value, unsigned, index_of}
 use Rattle.rules.specs.Laws.Lex.{drop_at}
 
@@ -76,36 +76,30 @@ module _ {D : List ℕ} {n at : ℕ} (r : Reading D n at) where
       let e = drop_of_length-le D {i = at} h in
       sym ((is_unsigned D n s (r.all ∙ ap digits e) (r.worth ∙ ap (value n) e) r.fits))
 
-  module _ (h : at < length D) {b : ℕ} (is : b ≡ get_or D at 0) where
+  module _ (h : at < length D) where
+    abbrev pub b : ℕ
+    b = get_or D at 0
+
     here : drop at D ≡ b ∷ drop (at + 1) D
-    here = drop_at D at h ∙ ap (λ x. x ∷ drop (at + 1) D) (sym is)
+    here = drop_at D at h
 
-    no_digit : digit b ≡ false → nothing ≡ (unsigned D)
+    pub no_digit : digit b ≡ false → nothing ≡ (unsigned D)
     no_digit e = sym ((no_digits D (r.all ∙ ap digits here ∙ digits_off b (drop (at + 1) D) e)))
-
-    pub too_low : b < 48 → nothing ≡ (unsigned D)
-    unfolding digit
-    too_low l = no_digit (rw (lt-leb 48 b l))
-
-    pub too_high : 57 < b → nothing ≡ (unsigned D)
-    unfolding digit
-    too_high l = no_digit (rw (lt-leb b 57 l) (and_not (leb 48 b)))
 
     next_value : value 0 D ≡ value (n * 10 + (b - 48)) (drop (at + 1) D)
     unfolding value
     next_value = r.worth ∙ ap (value n) here
 
-    pub overflows : (18446744073709551615 - (b - 48)) / 10 < n → nothing ≡ (unsigned D)
+    pub overflows : (n * 10 + (b - 48) < 2 ^ 64 → ⊥) → nothing ≡ (unsigned D)
     overflows o = sym ((too_big D (omega (arith, next_value, value_more (n * 10 + (b - 48)) (drop (at + 1) D)))))
 
-    pub more : 48 ≤ b → b ≤ 57 → n ≤ (18446744073709551615 - (b - 48)) / 10 → Reading D (n * 10 + (b - 48)) (at + 1)
-    unfolding digit
-    more l m o =
+    pub more : digit b ≡ true → {m : ℕ} → m ≡ n * 10 + (b - 48) → m < 2 ^ 64 → Reading D m (at + 1)
+    more d e f =
         record {
           inside = omega arith;
-          fits = omega arith;
-          all = r.all ∙ ap digits here ∙ digits_on b (drop (at + 1) D) (rw (le-leb 48 b l, le-leb b 57 m));
-          worth = next_value;
+          fits = f;
+          all = r.all ∙ ap digits here ∙ digits_on b (drop (at + 1) D) d;
+          worth = next_value ∙ ap (λ k. value k (drop (at + 1) D)) (sym e);
         }
 
 -- the sign

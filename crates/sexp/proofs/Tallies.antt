@@ -1,13 +1,17 @@
--- The loops of `count` and `place`, as steps from item to item. Assumes nothing.
-use mathlib.Core.Path.{◌≡◌, refl, ap, ◌∙◌}
+-- The walk of `count` and the loop of `place`, as steps from item to item. Assumes nothing.
+use mathlib.Core.Path.{◌≡◌, refl, sym, ap, ◌∙◌}
 use Prim.Native.Nat.{ℕ, zero, suc, ◌+◌, ◌-◌, ◌≤◌, ◌<◌}
-use mathlib.Core.List.{List}
+use mathlib.Core.List.{List, [], ◌∷◌}
 use native.Mathlib.Omega.{arith}
 use lib.ListN.{length}
+use denote.Ref.{Bor}
+use Rattle.std.specs.Iterator.{Yields}
 use Rattle.rules.specs.Sexp.{Sexp, Sexps, nil, cons, count, item}
 use Rattle.rules.specs.Laws.Sexp.{count_cons}
 use Rattle.sexp.specs.Encode.{encode, encodes}
 use Rattle.sexp.specs.Items.{Items, Reaches, item_at, item_of, behind, place}
+use Rattle.sexp.specs.Each.{Walks, Over, here, over}
+use Rattle.sexp.specs.declared.items.Each.{Each}
 use Rattle.sexp.specs.declared.items.Item.{Item}
 use Rattle.sexp.specs.ItemLaws.{At, at_first, at_more, at_over, at_next, some_cells, More, item_here, behind_item, item_at_place, place_room, place_inside}
 
@@ -28,44 +32,15 @@ module _ {words : List ℕ} {at : ℕ} {left : Sexps} (k : At words at left) (m 
   within : r ≤ length words
   within = next.high
 
--- n items are passed
-pub record Tally (words : List ℕ) (n at : ℕ) (xs : Sexps) : Type 0 where
-  pub left : Sexps
-  pub here : At words at left
-  pub sum : n + count left ≡ count xs
-
-pub record Tallies (words : List ℕ) (n at : ℕ) : Type 0 where
-  pub some : Items words
-  pub all : (xs : Sexps) → words ≡ encodes xs → Tally words n at xs
-  pub few : n ≤ at
-
-pub tally_start : {words : List ℕ} → Items words → Tallies words 0 0
-tally_start i = record { some = i; all = λ xs e. record { left = xs; here = at_first e; sum = omega arith }; few = omega arith }
-
-module _ {words : List ℕ} {n at : ℕ} (t : Tallies words n at) where
-  one : Tally words n at t.some.0
-  one = t.all t.some.0 t.some.1
-
-  pub tally_done : length words ≤ at → (xs : Sexps) → words ≡ encodes xs → n ≡ count xs
-  unfolding count
-  tally_done h xs e =
-      let k = t.all xs e in
-      omega (arith, k.sum, ap count (at_over k.left k.here h))
-
-  module _ (h : at < length words) (r : ℕ) (e : r ≡ behind at (item_at words at)) where
-    pub tally_less : (at < r) × (r ≤ length words)
-    tally_less = (on one.here (at_more _ one.here h) r e, within one.here (at_more _ one.here h) r e)
-
-    pub tally_on : Tallies words (n + 1) r
-    tally_on =
-        record {
-          some = t.some;
-          all = λ xs f.
-              let k = t.all xs f in
-              let m = at_more k.left k.here h in
-              record { left = m.others; here = next k.here m r e; sum = omega (arith, k.sum, ap count m.is, count_cons m.first m.others) };
-          few = omega (arith, t.few, tally_less.0);
-        }
+-- the items that a walk gives, up to its end, are as many as are left
+pub walked : {words : List ℕ} (s t u : Each) (xs : List (Bor (List ℕ))) (left : Sexps) → s.cells.now ≡ words → At words s.at left → Yields Walks s xs t → Over t u → length xs ≡ count left
+unfolding count
+walked s t u [] left e k y o = sym (ap count (at_over left (rw y at k) (over (rw y at e) o)))
+walked s t u (x ∷ xs) left e k y o =
+    let (j, step, rest) = y in
+    let h = here e step in
+    let m = at_more left k h.inside in
+    omega (arith, walked j t u xs m.others h.same (next k m j.at h.behind) rest o, ap count m.is, count_cons m.first m.others)
 
 -- so many items are still to be passed
 pub record Seek (words : List ℕ) (number at n : ℕ) (xs : Sexps) : Type 0 where

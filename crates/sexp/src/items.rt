@@ -93,11 +93,7 @@ pub fn count(words: &[u32]) -> usize
     requires { Items words.now }
     ensures { (xs : Sexps) → words.now ≡ encodes xs → result ≡ count xs }
 {
-    let mut n = 0;
-    for _item in all(words) {
-        n += 1;
-    }
-    n
+    all(words).count()
 }
 
 // Where the item with that number begins, counted from 0, and with it the rest of the list.

@@ -4,7 +4,7 @@ ghost use Rattle.std.specs.Prelude.{◌≡◌, true, ℕ, ◌+◌, ◌*◌, ◌�
 ghost use Rattle.std.specs.Fn.{FnReturnsAt};
 ghost use Rattle.rules.specs.Text.{plain, short};
 ghost use Rattle.rules.specs.Lex.{white, kind, letter, letters};
-ghost use Rattle.sexp.specs.Lexed.{wide, is_letter, InAtom, InComment, LineEnd, Skipped};
+ghost use Rattle.sexp.specs.Lexed.{wide, is_letter, LineEnd, Skipped};
 
 // Question 1, of one table.
 pub fn fits(len: usize, limit: usize) -> bool

@@ -25,23 +25,16 @@ pub fn same(s: &[u8], t: &[u8]) -> bool
 fn unsigned(digits: &[u8]) -> Option<usize>
     ensures { result ≡ unsigned digits.now }
 {
-    if digits.len() == 0 {
+    if digits.is_empty() {
         return None;
     }
-    let mut n = 0;
+    let mut n: usize = 0;
     for digit in digits {
-        let b = usize::from(*digit);
-        if b < 48 {
+        if !digit.is_ascii_digit() {
             return None;
         }
-        if 57 < b {
-            return None;
-        }
-        let d = b - 48;
-        if (0xffff_ffff_ffff_ffff - d) / 10 < n {
-            return None;
-        }
-        n = n * 10 + d;
+        let tens = n.checked_mul(10)?;
+        n = tens.checked_add(usize::from(digit - b'0'))?;
     }
     Some(n)
 }
@@ -50,7 +43,7 @@ fn unsigned(digits: &[u8]) -> Option<usize>
 pub fn index_of(name: &[u8]) -> Option<usize>
     ensures { result ≡ index_of name.now }
 {
-    if name.len() == 0 {
+    if name.is_empty() {
         return None;
     }
     if name[0] == b'+' {
@@ -72,6 +65,7 @@ pub fn named(
     ensures { (ns : List Name) → NameRows text.now table.now width place count ns →
         result ≡ first (λ n. same n.bytes name.now) ns 0 }
 {
+    // an index and no `chunks_exact`: the rows may begin anywhere in the table, so that `place` lies behind the end of a chunk, and the last may be short
     for i in 0..count {
         let at = width * i + place;
         let start = table[at] as usize;

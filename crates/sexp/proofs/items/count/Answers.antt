@@ -1,11 +1,9 @@
-use Rattle.sexp.specs.Each.{here, over}
-use Rattle.sexp.proofs.Tallies.{tally_on, tally_done}
+use mathlib.Core.Path.{◌∙◌}
+use Rattle.sexp.specs.ItemLaws.{at_first}
+use Rattle.sexp.proofs.Tallies.{walked}
 use Rattle.sexp.proofs.items.count.Goals as goal
 
-pub loop-item-preserved : goal.loop-item-preserved
-loop-item-preserved c =
-    let h = here c.loop-item.invariant.cells c.in-Some.ensures.steps in
-    record { cells = h.same; tally = tally_on c.loop-item.invariant.tally h.inside _ h.behind }
-
 pub returns : goal.returns
-returns c = tally_done c.loop-item.invariant.tally (over c.loop-item.invariant.cells c.in-None.ensures.steps)
+returns c xs e =
+    let (items, (u, (t, gives, ends)), is) = c.count.ensures.ran in
+    is ∙ walked _ t u items xs c.all.ensures.0 (rw c.all.ensures.1 (at_first e)) gives ends

@@ -1,4 +1,4 @@
-use Rattle.std.proofs.Common.{◌≡◌, length, arith, rules}
+use Rattle.std.proofs.Common.{◌≡◌, length, rules}
 use Rattle.sexp.proofs.Firsts.{head_none, head_list, head_start, head_high, head_atom}
 use Rattle.sexp.proofs.items.head.Goals as goal
 
