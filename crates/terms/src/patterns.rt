@@ -1,6 +1,6 @@
 // Rules' patterns over the store (specs/Patterns.antt says how words stand for a pattern and cells for bindings). A pattern is read in
 // prefix notation from a place on, and each function finds the place behind it on the way.
-ghost use Rattle.std.specs.Prelude.{◌≡◌, ℕ, ◌+◌, ◌*◌, ◌≤◌, ◌<◌, length};
+ghost use Rattle.std.specs.Prelude.{◌≡◌, ◌*◌, ◌<◌, length};
 ghost use Rattle.rules.specs.Limits.{SYMBOLS};
 ghost use Rattle.terms.specs.Lent.{SameTables};
 ghost use Rattle.terms.specs.Patterns.{arity, Skippable, Skipped, args_by_table, Matchable, AllMatchable, TriedAt, TriedAll, MatchedAt, MatchedAll, Buildable, BuiltAt};

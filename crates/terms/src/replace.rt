@@ -1,6 +1,6 @@
 // A term under a substitution, with a memo of the results: recursion on falling term numbers, so that a shared subterm is visited once. A
 // term without variables is its own result.
-ghost use Rattle.std.specs.Prelude.{◌≡◌, ◌++◌, ℕ, ◌+◌, ◌-◌, ◌≤◌, ◌<◌, length, drop};
+ghost use Rattle.std.specs.Prelude.{◌≡◌, ◌++◌, ◌-◌, ◌≤◌, length, drop};
 ghost use Rattle.rules.specs.Limits.{NODE};
 ghost use Rattle.rules.specs.Store.{keep as keep_tree};
 ghost use Rattle.terms.specs.Table.{tree_at, Shaped};

@@ -1,6 +1,6 @@
 // Sets of numbers as words of 64 bits: VARIABLEWORDS of them for variables, FACTWORDS for facts, RULEWORDS for rules, TERMWORDS for
 // terms, which are the most. A contract speaks of the set (`holds`), never of a bit. A set is emptied by `cells::clear`.
-ghost use Rattle.std.specs.Prelude.{◌≡◌, ℕ, ◌+◌, ◌*◌, ◌≤◌, ◌<◌, eqb, length};
+ghost use Rattle.std.specs.Prelude.{◌≡◌, ◌+◌, ◌*◌, ◌≤◌, ◌<◌, eqb, length};
 ghost use Rattle.std.proofs.lemmas.List.Edits.{sets};
 ghost use Rattle.rules.specs.Limits.{TERMS, TERMWORDS};
 ghost use Rattle.rules.specs.Find.{union, minus, least, rising, rising_from};

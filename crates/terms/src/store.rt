@@ -1,11 +1,11 @@
 // The store: the distinct terms made so far, numbered in the order made, in two tables (specs/Table.antt says how they stand for trees).
 // A node is gathered by the caller, looked up by its bucket, and only a new one is written, behind the words that are used.
-ghost use Rattle.std.specs.Prelude.{◌≡◌, ◌++◌, ℕ, ◌+◌, ◌-◌, ◌≤◌, ◌<◌, length, get_or, drop, replicate};
+ghost use Rattle.std.specs.Prelude.{◌≡◌, ◌-◌, ◌≤◌, ◌<◌, length};
 ghost use Rattle.std.specs.Bool.{Decides};
 ghost use Rattle.rules.specs.Limits.{TERMS, VARIABLES, WORDS};
 ghost use Rattle.rules.specs.Tree.{is_open, var};
 ghost use Rattle.rules.specs.Store.{keep};
-ghost use Rattle.terms.specs.Table.{INDEX, BUCKETS, run, start, tree_at, node_at, hash, flag, Shaped, Node, Good, settled, Part, Back};
+ghost use Rattle.terms.specs.Table.{INDEX, BUCKETS, start, tree_at, node_at, hash, flag, Shaped, Node, settled, Part, Back};
 ghost use Rattle.terms.specs.Node.{seek, Linked, Unlinked, Held, HeldIn, HeadIs, OpenIs};
 ghost use Rattle.terms.specs.Lent.{GoodTerms, GoodStore, terms_made, terms_of, made_of, SameTables, KeptAs};
 

@@ -1,5 +1,5 @@
 // A term under a substitution, with a memo that is zero before and after (src/replace.rt).
-ghost use Rattle.std.specs.Prelude.{◌≡◌, ℕ, ◌<◌, length, replicate};
+ghost use Rattle.std.specs.Prelude.{◌≡◌, ◌<◌, length, replicate};
 ghost use Rattle.rules.specs.Store.{substitute as substitute_tree};
 ghost use Rattle.terms.specs.Table.{tree};
 ghost use Rattle.terms.specs.Lent.{SameTables, KeptAs, made_of};

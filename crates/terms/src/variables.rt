@@ -1,5 +1,5 @@
 // The variables of a term: recursion on falling term numbers. A shared subterm is visited once, and a term without variables never.
-ghost use Rattle.std.specs.Prelude.{◌≡◌, ℕ, ◌*◌, ◌≤◌, ◌<◌, length, replicate};
+ghost use Rattle.std.specs.Prelude.{◌≡◌, ◌<◌, length, replicate};
 ghost use Rattle.rules.specs.Limits.{VARIABLES, VARIABLEWORDS};
 ghost use Rattle.rules.specs.Find.{union};
 ghost use Rattle.rules.specs.Tree.{variables as variables_in};
