@@ -129,6 +129,7 @@ pub extern "C" fn tariff_unify(
         memo,
         pairs,
         seen,
+        waiting: 0,
     };
     number_of(unify(&mut store, variables, s, t, theta, &mut scratch))
 }

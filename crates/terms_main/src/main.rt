@@ -6,8 +6,7 @@
 // (f (f x0 a) a) once x1 is bound; the third by the symbols a and b.
 #![tactic(auto)]
 
-ghost use Rattle.std.specs.Prelude.{◌≡◌, ◌≤◌, ◌<◌, ◌*◌, length, IfOk, OnOk, IfSome};
-ghost use Rattle.rules.specs.Limits.{TERMS, VARIABLEWORDS};
+ghost use Rattle.std.specs.Prelude.{◌≤◌, ◌<◌, length, IfOk, OnOk, IfSome};
 ghost use Rattle.terms.specs.Lent.{GoodStore, GoodTerms, SameTables};
 ghost use Rattle.terms.specs.Theta.{Theta};
 ghost use Rattle.terms_main.specs.Placed.{Kept, Placed};
@@ -74,6 +73,7 @@ fn bindings(alloc: Global, store: &mut Store<'_>, s: usize, t: usize) -> Result<
         memo: &mut memo,
         pairs: &mut pairs,
         seen: &mut seen,
+        waiting: 0,
     };
     let found = unify(store, VARIABLES, s, t, &mut theta, &mut scratch).map_err(no_room)?;
     if !found {

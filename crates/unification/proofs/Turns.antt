@@ -234,6 +234,6 @@ module _ (I W : List ℕ) (m : Mark) (theta memo P seen : List ℕ) (w : ℕ) (q
       -- from the answer of what comes next
       pub pair_turned : (P' : List ℕ) (v : ℕ) (x : Result Step Row) → Looked J X new P P' (w - 1) v L x → length P' ≡ length P → length memo' ≡ length memo → Turned I W J X m new theta memo' P P' seen w v x
       pair_turned P' v (Ok step.Done) n f g = pair_more P' v n f g
-      pair_turned P' v (Ok step.Clash) n f g = pair_clash P' v g n
+      pair_turned P' v (Ok step.Clash) n f g = let z = n.1 in let y = q.1 in (pair_clash P' v g n.0, omega arith)
       pair_turned P' v (Ok (step.Binds y u)) n f g = pair_binds P' v g y u n
       pair_turned P' v (Err row) n f g = λ k. subst (λ (r : Row). Refused Found I W J X m (peels (suc k) I W m theta P w) (row_number r) new) (sym n.1) (pair_crowd P' v n.0 k)

@@ -8,7 +8,6 @@ use Rattle.rules.specs.Unify.{Pair, Look, agree, clash, binds, parts}
 use Rattle.terms.specs.declared.store.Mark.{Mark}
 use Rattle.unification.specs.declared.pairs.Asks.{Asks}
 use Rattle.unification.specs.declared.pairs.Asks.TheVariants.{Nothing, Clash, Binds, Parts}
-use Rattle.unification.specs.declared.pairs.Pairs.{Pairs}
 use Rattle.terms.specs.Table.{run, args_of, made, Good, tree}
 
 -- What two terms ask for ---------------------------------------------------------------------------------------------------------
@@ -56,7 +55,3 @@ waits M P (suc n) = record { left = get_or M (get_or P (2 * n) 0) (var 0); right
 unfoldable pub piled : List ℕ → ℕ → ℕ → List ℕ → ℕ → ℕ → List ℕ
 piled W a b P w zero = P
 piled W a b P w (suc k) = set (set (piled W a b P w k) (2 * (w + k)) (get_or W (a + k) 0)) (2 * (w + k) + 1) (get_or W (b + k) 0)
-
--- the cells are those that were lent, and as many
-abbrev pub SameCells : Pairs → Pairs → Type 0
-SameCells p q = (q.cells.ghost_name ≡ p.cells.ghost_name) × (length q.cells.now ≡ length p.cells.now)

@@ -89,7 +89,7 @@ pub record BindsHere (I W : List ℕ) (m : Mark) (P P' : List ℕ) (L : Look) (x
 
 abbrev pub Looked : List ℕ → List ℕ → Mark → List ℕ → List ℕ → ℕ → ℕ → Look → Result Step Row → Type 0
 Looked I W m P P' w v L (Ok Done) = OntoPairs I W m P P' w v L
-Looked I W m P P' w v L (Ok Clash) = L ≡ clash
+Looked I W m P P' w v L (Ok Clash) = (L ≡ clash) × (v ≡ w)
 Looked I W m P P' w v L (Ok (Binds x u)) = BindsHere I W m P P' L x u × (v ≡ w)
 Looked I W m P P' w v L (Err row) = Crowded w L × (row ≡ rows.Pairs)
 
@@ -145,7 +145,7 @@ pub record BindsOne (I W J X : List ℕ) (old : Mark) (memo' P' : List ℕ) (K :
 
 abbrev pub Turned : List ℕ → List ℕ → List ℕ → List ℕ → Mark → Mark → List ℕ → List ℕ → List ℕ → List ℕ → List ℕ → ℕ → ℕ → Result Step Row → Type 0
 Turned I W J X old new theta memo' P P' seen w v (Ok Done) = Lighter I W J X old theta memo' P P' seen w v new
-Turned I W J X old new theta memo' P P' seen w v (Ok Clash) = (k : ℕ) → Clashes I W J X old memo' (peels (suc k) I W old theta P w) new
+Turned I W J X old new theta memo' P P' seen w v (Ok Clash) = ((k : ℕ) → Clashes I W J X old memo' (peels (suc k) I W old theta P w) new) × (suc v ≡ w)
 Turned I W J X old new theta memo' P P' seen w v (Ok (Binds x u)) = (k : ℕ) → BindsOne I W J X old memo' P' (peels (suc k) I W old theta P w) x u v new
 Turned I W J X old new theta memo' P P' seen w v (Err row) = (k : ℕ) → Refused Found I W J X old (peels (suc k) I W old theta P w) (row_number row) new
 
@@ -156,6 +156,7 @@ pub record Finishes (I W J X : List ℕ) (old : Mark) (memo' : List ℕ) (K : Ou
   pub makes : K ≡ ok finished (made J X new)
   pub results : Results memo' new
 
+-- of the pairs that wait behind a clash it says nothing: the definition's answer does not have them
 abbrev pub PeeledAs : List ℕ → List ℕ → List ℕ → List ℕ → Mark → Mark → List ℕ → List ℕ → ℕ → Out Made Found → Result Step Row → Type 0
 PeeledAs I W J X old new memo' P' v K (Ok Done) = Finishes I W J X old memo' K new
 PeeledAs I W J X old new memo' P' v K (Ok Clash) = Clashes I W J X old memo' K new

@@ -29,6 +29,10 @@ pub record Scratch (theta map memo pairs seen : List ℕ) : Type 0 where
 abbrev pub SameScratch : Tables → Tables → Type 0
 SameScratch x y = (y.map.ghost_name ≡ x.map.ghost_name) × (y.memo.ghost_name ≡ x.memo.ghost_name) × (y.pairs.ghost_name ≡ x.pairs.ghost_name) × (y.seen.ghost_name ≡ x.seen.ghost_name)
 
+-- the same, and the memo and the pairs are as long
+abbrev pub SameCells : Tables → Tables → Type 0
+SameCells x y = SameScratch x y × (length y.memo.now ≡ length x.memo.now) × (length y.pairs.now ≡ length x.pairs.now)
+
 -- two terms whose variables are below the count: so many can be bound, and that is enough for every unifier
 pub record Unifiable (I W : List ℕ) (m : Mark) (count s t : ℕ) (theta map memo pairs seen : List ℕ) : Type 0 where
   pub good : Good I W m

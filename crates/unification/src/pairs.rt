@@ -1,11 +1,13 @@
 // Steps of unification over the store: what two terms ask for, and their arguments put among the pairs that wait, two cells for each
 // (specs/Pairs.antt says how cells stand for pairs).
-ghost use Rattle.std.specs.Prelude.{◌≡◌, ℕ, ◌+◌, ◌*◌, ◌≤◌, ◌<◌, length, replicate};
+ghost use Rattle.std.specs.Prelude.{◌≡◌, ◌+◌, ◌*◌, ◌≤◌, ◌<◌, length};
 ghost use Rattle.rules.specs.Limits.{VARIABLES};
 ghost use Rattle.rules.specs.Unify.{bind_or_clash, look};
 ghost use Rattle.terms.specs.Table.{tree};
-ghost use Rattle.unification.specs.Pairs.{Searchable, Comparable, Answered, SameCells, piled};
+ghost use Rattle.unification.specs.Pairs.{Searchable, Comparable, Answered, piled};
+ghost use Rattle.unification.specs.Unify.{SameCells};
 
+use crate::unify::Scratch;
 use rules::SYMBOLS;
 use terms::store::Terms;
 use terms::variables::occurs;
@@ -24,13 +26,6 @@ pub enum Asks {
         right: usize,
         count: usize,
     },
-}
-
-// The pairs that wait, the last one first.
-#[derive(Drop)]
-pub struct Pairs<'a> {
-    pub cells: &'a mut [u32],
-    pub waiting: usize,
 }
 
 // The variable `x` is bound to the term `id`, unless it occurs there. `seen` is scratch: zero before and after.
@@ -81,19 +76,20 @@ pub fn compare(terms: &Terms<'_>, s: usize, t: usize, seen: &mut [u64]) -> Asks
     }
 }
 
-impl Pairs<'_> {
+impl Scratch<'_> {
     // Pairs of `count` words from `left` on and from `right` on come onto those that wait.
-    pub fn push(&mut self, words: &[u32], left: usize, right: usize, count: usize)
-        requires { (left + count ≤ length words.now) × (right + count ≤ length words.now) × (2 * (self.old.waiting + count) ≤ length self.old.cells.now) }
+    pub(crate) fn push(&mut self, words: &[u32], left: usize, right: usize, count: usize)
+        requires { (left + count ≤ length words.now) × (right + count ≤ length words.now) × (2 * (self.old.waiting + count) ≤ length self.old.pairs.now) }
         ensures same_cells { SameCells self.old self.new }
-        ensures cells { self.new.cells.now ≡ piled words.now left right self.old.cells.now self.old.waiting count }
+        ensures pairs { self.new.pairs.now ≡ piled words.now left right self.old.pairs.now self.old.waiting count }
         ensures waiting { self.new.waiting ≡ self.old.waiting + count }
+        ensures unchanged { let x = self.old in let y = self.new in (y.map.now ≡ x.map.now) × (y.memo.now ≡ x.memo.now) × (y.seen.now ≡ x.seen.now) }
     {
         let from = self.waiting;
         for k in 0..count {
             let at = 2 * (from + k);
-            self.cells[at] = words[left + k];
-            self.cells[at + 1] = words[right + k];
+            self.pairs[at] = words[left + k];
+            self.pairs[at + 1] = words[right + k];
         }
         self.waiting = from + count;
     }

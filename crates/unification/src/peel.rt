@@ -1,13 +1,14 @@
 // Pairs are taken, the last one first, until one binds a variable. Both sides come into the store under the bindings so far; a memo keeps
 // the results, which hold as long as the bindings do.
-ghost use Rattle.std.specs.Prelude.{◌≡◌, ℕ, suc, ◌<◌};
+ghost use Rattle.std.specs.Prelude.{◌≡◌, suc, ◌<◌};
 ghost use Rattle.rules.specs.Unify.{look};
 ghost use Rattle.terms.specs.Table.{tree};
 ghost use Rattle.terms.specs.Lent.{SameTables};
-ghost use Rattle.unification.specs.Pairs.{SameCells};
+ghost use Rattle.unification.specs.Unify.{SameCells};
 ghost use Rattle.unification.specs.Peel.{Sideable, Sided, Lookable, Looked, Peelable, weighs, peels, Turned, PeeledAs};
 
-use crate::pairs::{Asks, Pairs, compare};
+use crate::pairs::{Asks, compare};
+use crate::unify::Scratch;
 use questions::Row;
 use rules::PAIRS;
 use terms::replace::replace;
@@ -38,73 +39,59 @@ fn both_under(
     Ok((left, right))
 }
 
-// What the terms `s` and `t` ask for is done. `seen` is scratch: zero before and after.
-fn onward(
-    terms: &Terms<'_>,
-    s: usize,
-    t: usize,
-    pairs: &mut Pairs<'_>,
-    seen: &mut [u64],
-) -> Result<Step, Row>
-    requires { let m = terms.now in Lookable m.index.now m.words.now m.mark pairs.old.cells.now seen.old pairs.old.waiting s t }
-    ensures same_cells { SameCells pairs.old pairs.new }
-    ensures looked { let m = terms.now in Looked m.index.now m.words.now m.mark pairs.old.cells.now pairs.new.cells.now pairs.old.waiting pairs.new.waiting (look (tree m.index.now m.words.now m.mark s) (tree m.index.now m.words.now m.mark t)) result }
-    ensures seen_unchanged { seen.new ≡ seen.old }
+// What the terms `s` and `t` ask for is done. `seen` of the scratch is zero before and after.
+fn onward(terms: &Terms<'_>, s: usize, t: usize, scratch: &mut Scratch<'_>) -> Result<Step, Row>
+    requires { let m = terms.now in let x = scratch.old in Lookable m.index.now m.words.now m.mark x.pairs.now x.seen.now x.waiting s t }
+    ensures same_cells { SameCells scratch.old scratch.new }
+    ensures looked { let m = terms.now in let x = scratch.old in let y = scratch.new in Looked m.index.now m.words.now m.mark x.pairs.now y.pairs.now x.waiting y.waiting
+        (look (tree m.index.now m.words.now m.mark s) (tree m.index.now m.words.now m.mark t)) result }
+    ensures unchanged { let x = scratch.old in let y = scratch.new in (y.map.now ≡ x.map.now) × (y.memo.now ≡ x.memo.now) × (y.seen.now ≡ x.seen.now) }
 {
-    match compare(terms, s, t, seen) {
+    match compare(terms, s, t, scratch.seen) {
         Asks::Nothing => Ok(Step::Done),
         Asks::Clash => Ok(Step::Clash),
         Asks::Binds { variable, term } => Ok(Step::Binds { variable, term }),
         Asks::Parts { left, right, count } => {
-            if PAIRS < pairs.waiting + count {
+            if PAIRS < scratch.waiting + count {
                 return Err(Row::Pairs);
             }
-            pairs.push(terms.words, left, right, count);
+            scratch.push(terms.words, left, right, count);
             Ok(Step::Done)
         }
     }
 }
 
-// The last of the pairs is taken. `seen` is scratch: zero before and after.
-fn take_pair(
-    store: &mut Store<'_>,
-    theta: &[u32],
-    memo: &mut [u32],
-    pairs: &mut Pairs<'_>,
-    seen: &mut [u64],
-) -> Result<Step, Row>
-    requires { let m = store.old in Peelable m.index.now m.words.now m.mark theta.now memo.old pairs.old.cells.now seen.old pairs.old.waiting × (0 < pairs.old.waiting) }
+// The last of the pairs is taken.
+fn take_pair(store: &mut Store<'_>, theta: &[u32], scratch: &mut Scratch<'_>) -> Result<Step, Row>
+    requires { let m = store.old in let x = scratch.old in
+        Peelable m.index.now m.words.now m.mark theta.now x.memo.now x.pairs.now x.seen.now x.waiting × (0 < x.waiting) }
     ensures same_tables { SameTables store.old store.new }
-    ensures same_cells { SameCells pairs.old pairs.new }
-    ensures turned { let m = store.old in let n = store.new in Turned m.index.now m.words.now n.index.now n.words.now m.mark n.mark theta.now memo.new pairs.old.cells.now pairs.new.cells.now seen.old pairs.old.waiting pairs.new.waiting result }
-    ensures seen_unchanged { seen.new ≡ seen.old }
+    ensures same_cells { SameCells scratch.old scratch.new }
+    ensures turned { let m = store.old in let n = store.new in let x = scratch.old in let y = scratch.new in Turned m.index.now m.words.now n.index.now n.words.now m.mark n.mark
+        theta.now y.memo.now x.pairs.now y.pairs.now x.seen.now x.waiting y.waiting result }
+    ensures unchanged { let x = scratch.old in let y = scratch.new in (y.map.now ≡ x.map.now) × (y.seen.now ≡ x.seen.now) }
 {
-    pairs.waiting -= 1;
-    let at = 2 * pairs.waiting;
-    let s = pairs.cells[at] as usize;
-    let t = pairs.cells[at + 1] as usize;
-    let (left, right) = both_under(store, theta, memo, s, t)?;
-    onward(&store.terms(), left, right, pairs, seen)
+    scratch.waiting -= 1;
+    let at = 2 * scratch.waiting;
+    let s = scratch.pairs[at] as usize;
+    let t = scratch.pairs[at + 1] as usize;
+    let (left, right) = both_under(store, theta, scratch.memo, s, t)?;
+    onward(&store.terms(), left, right, scratch)
 }
 
-// Pairs are taken until one binds a variable, or none is left. `seen` is scratch: zero before and after.
-pub fn peel(
-    store: &mut Store<'_>,
-    theta: &[u32],
-    memo: &mut [u32],
-    pairs: &mut Pairs<'_>,
-    seen: &mut [u64],
-) -> Result<Step, Row>
-    requires { let m = store.old in Peelable m.index.now m.words.now m.mark theta.now memo.old pairs.old.cells.now seen.old pairs.old.waiting }
+// Pairs are taken until one binds a variable, or none is left.
+pub fn peel(store: &mut Store<'_>, theta: &[u32], scratch: &mut Scratch<'_>) -> Result<Step, Row>
+    requires { let m = store.old in let x = scratch.old in Peelable m.index.now m.words.now m.mark theta.now x.memo.now x.pairs.now x.seen.now x.waiting }
     ensures same_tables { SameTables store.old store.new }
-    ensures same_cells { SameCells pairs.old pairs.new }
-    ensures peeled_as { let m = store.old in let n = store.new in PeeledAs m.index.now m.words.now n.index.now n.words.now m.mark n.mark memo.new pairs.new.cells.now pairs.new.waiting
-        (peels (suc (weighs m.index.now m.words.now m.mark theta.now pairs.old.cells.now pairs.old.waiting)) m.index.now m.words.now m.mark theta.now pairs.old.cells.now pairs.old.waiting) result }
-    ensures seen_unchanged { seen.new ≡ seen.old }
+    ensures same_cells { SameCells scratch.old scratch.new }
+    ensures peeled_as { let m = store.old in let n = store.new in let x = scratch.old in let y = scratch.new in
+        PeeledAs m.index.now m.words.now n.index.now n.words.now m.mark n.mark y.memo.now y.pairs.now y.waiting
+        (peels (suc (weighs m.index.now m.words.now m.mark theta.now x.pairs.now x.waiting)) m.index.now m.words.now m.mark theta.now x.pairs.now x.waiting) result }
+    ensures unchanged { let x = scratch.old in let y = scratch.new in (y.map.now ≡ x.map.now) × (y.seen.now ≡ x.seen.now) }
 {
     // No count: a pair that is taken can put others in its place.
-    while pairs.waiting != 0 {
-        match take_pair(store, theta, memo, pairs, seen)? {
+    while scratch.waiting != 0 {
+        match take_pair(store, theta, scratch)? {
             Step::Done => {}
             step => return Ok(step),
         }

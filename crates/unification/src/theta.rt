@@ -1,18 +1,21 @@
 // A substitution that grows by one binding after the other, in cells (specs/Theta.antt of `terms` says how they stand for bindings).
-ghost use Rattle.std.specs.Prelude.{◌≡◌, ℕ};
+ghost use Rattle.std.specs.Prelude.{◌≡◌};
 ghost use Rattle.rules.specs.Unify.{replace};
 ghost use Rattle.terms.specs.Table.{tree};
 ghost use Rattle.terms.specs.Lent.{SameTables, made_of};
 ghost use Rattle.terms.specs.Subst.{replacement};
 ghost use Rattle.terms.specs.Theta.{bindings};
+ghost use Rattle.unification.specs.Unify.{SameCells};
 ghost use Rattle.unification.specs.Extend.{in_values, Changeable, ChangedAs, Extendable, Extended};
 
+use crate::unify::Scratch;
 use cells::clear;
 use questions::Row;
 use terms::replace::replace;
 use terms::store::Store;
 
-// Every value under the substitution `map`, by rising variable. The memo serves all of them, as the substitution is one.
+// Every value under the substitution `map`, by rising variable. The memo serves all of them, as the substitution is one. Both are lent one by
+// one: the map is only read, and of the memo the first cells alone are lent.
 fn replace_values(
     store: &mut Store<'_>,
     theta: &mut [u32],
@@ -35,23 +38,26 @@ fn replace_values(
     Ok(())
 }
 
-// The variable `x` gets the value `u`: `u` for `x` in every value, by rising variable, then `x` itself. `map` and `memo` are scratch: zero
+// The variable `x` gets the value `u`: `u` for `x` in every value, by rising variable, then `x` itself. `map` and `memo` of the scratch are zero
 // before and after.
 pub fn extend(
     store: &mut Store<'_>,
     theta: &mut [u32],
-    map: &mut [u32],
-    memo: &mut [u32],
+    scratch: &mut Scratch<'_>,
     x: usize,
     u: usize,
 ) -> Result<(), Row>
-    requires { let s = store.old in Extendable s.index.now s.words.now s.mark theta.old map.old memo.old x u }
+    requires { let s = store.old in let w = scratch.old in Extendable s.index.now s.words.now s.mark theta.old w.map.now w.memo.now x u }
     ensures same_tables { SameTables store.old store.new }
+    ensures same_cells { SameCells scratch.old scratch.new }
     ensures extended { let s = store.old in let t = store.new in Extended s.index.now s.words.now t.index.now t.words.now s.mark t.mark theta.new x u
         (replace x (tree s.index.now s.words.now s.mark u) (bindings (made_of s) theta.old 0) (made_of s)) result }
-    ensures map_unchanged { (map.new ≡ map.old) × (memo.new ≡ memo.old) }
+    ensures unchanged { let w = scratch.old in let y = scratch.new in
+        (y.map.now ≡ w.map.now) × (y.memo.now ≡ w.memo.now) × (y.pairs.now ≡ w.pairs.now) × (y.seen.now ≡ w.seen.now) × (y.waiting ≡ w.waiting) }
 {
     let terms = store.mark.terms;
+    let map = &mut *scratch.map;
+    let memo = &mut *scratch.memo;
     map[x] = (u + 1) as u32;
     let changed = replace_values(store, theta, map, &mut memo[..terms]);
     map[x] = 0;

@@ -1,13 +1,11 @@
 // Unification over the store: a most general replacement that makes two terms equal, one variable bound after the other.
-ghost use Rattle.std.specs.Prelude.{◌≡◌, ℕ, suc, length, replicate};
+ghost use Rattle.std.specs.Prelude.{◌≡◌, suc, length, replicate};
 ghost use Rattle.rules.specs.Unify.{unify};
 ghost use Rattle.terms.specs.Table.{tree};
 ghost use Rattle.terms.specs.Lent.{SameTables, made_of};
-ghost use Rattle.unification.specs.Unify.{Unifiable, UnifiedBy, SameScratch};
-ghost use Rattle.unification.specs.Pairs.{SameCells};
+ghost use Rattle.unification.specs.Unify.{Unifiable, UnifiedBy, SameScratch, SameCells};
 ghost use Rattle.unification.specs.Peel.{Results, Solvable, Rounded, solves, SolvedAs};
 
-use crate::pairs::Pairs;
 use crate::peel::{Step, peel};
 use crate::theta::extend;
 use cells::clear;
@@ -21,6 +19,8 @@ pub struct Scratch<'a> {
     pub memo: &'a mut [u32],
     pub pairs: &'a mut [u32],
     pub seen: &'a mut [u64],
+    // how many of the pairs wait; of no meaning before and after
+    pub waiting: usize,
 }
 
 // A memo of results becomes zero: only terms that are there have one.
@@ -32,59 +32,54 @@ fn clear_memo(memo: &mut [u32], mark: Mark)
 }
 
 // Pairs are taken until one binds a variable, and that comes into the bindings: whether a unifier exists, once that is known. `map`, `memo`
-// and `seen` are scratch: zero before and after.
+// and `seen` of the scratch are zero before and after.
 fn bind_next(
     store: &mut Store<'_>,
     theta: &mut [u32],
-    map: &mut [u32],
-    memo: &mut [u32],
-    pairs: &mut Pairs<'_>,
-    seen: &mut [u64],
+    scratch: &mut Scratch<'_>,
 ) -> Result<Option<bool>, Row>
-    requires { let s = store.old in Solvable s.index.now s.words.now s.mark theta.old map.old memo.old pairs.old.cells.now seen.old pairs.old.waiting }
+    requires { let s = store.old in let x = scratch.old in Solvable s.index.now s.words.now s.mark theta.old x.map.now x.memo.now x.pairs.now x.seen.now x.waiting }
     ensures same_tables { SameTables store.old store.new }
-    ensures same_cells { SameCells pairs.old pairs.new }
-    ensures rounded { let s = store.old in let t = store.new in Rounded s.index.now s.words.now t.index.now t.words.now s.mark t.mark theta.old theta.new map.old memo.old pairs.old.cells.now pairs.new.cells.now seen.old pairs.old.waiting pairs.new.waiting result }
-    ensures map_unchanged { (map.new ≡ map.old) × (memo.new ≡ memo.old) × (seen.new ≡ seen.old) }
+    ensures same_cells { SameCells scratch.old scratch.new }
+    ensures rounded { let s = store.old in let t = store.new in let x = scratch.old in let y = scratch.new in Rounded s.index.now s.words.now t.index.now t.words.now s.mark t.mark theta.old theta.new
+        x.map.now x.memo.now x.pairs.now y.pairs.now x.seen.now x.waiting y.waiting result }
+    ensures unchanged { let x = scratch.old in let y = scratch.new in (y.map.now ≡ x.map.now) × (y.memo.now ≡ x.memo.now) × (y.seen.now ≡ x.seen.now) }
 {
-    let step = match peel(store, theta, memo, pairs, seen) {
+    let step = match peel(store, theta, scratch) {
         Ok(step) => step,
         Err(row) => {
-            clear(memo);
+            clear(scratch.memo);
             return Err(row);
         }
     };
-    clear_memo(memo, store.mark);
+    clear_memo(scratch.memo, store.mark);
     match step {
         Step::Done => Ok(Some(true)),
         Step::Clash => Ok(Some(false)),
         Step::Binds { variable, term } => {
-            extend(store, theta, map, memo, variable, term)?;
+            extend(store, theta, scratch, variable, term)?;
             Ok(None)
         }
     }
 }
 
-// The pairs that wait, one variable bound after the other, at most `count` and one more: whether a unifier exists. `map`, `memo` and `seen`
-// are scratch: zero before and after.
+// The pairs that wait, one variable bound after the other, at most `count` and one more: whether a unifier exists. `map`, `memo` and `seen` of
+// the scratch are zero before and after.
 fn solve(
     store: &mut Store<'_>,
     count: usize,
     theta: &mut [u32],
-    map: &mut [u32],
-    memo: &mut [u32],
-    pairs: &mut Pairs<'_>,
-    seen: &mut [u64],
+    scratch: &mut Scratch<'_>,
 ) -> Result<bool, Row>
-    requires { let s = store.old in Solvable s.index.now s.words.now s.mark theta.old map.old memo.old pairs.old.cells.now seen.old pairs.old.waiting }
+    requires { let s = store.old in let x = scratch.old in Solvable s.index.now s.words.now s.mark theta.old x.map.now x.memo.now x.pairs.now x.seen.now x.waiting }
     ensures same_tables { SameTables store.old store.new }
-    ensures same_cells { SameCells pairs.old pairs.new }
-    ensures solved_as { let s = store.old in let t = store.new in SolvedAs s.index.now s.words.now t.index.now t.words.now s.mark t.mark theta.new
-        (solves (suc count) s.index.now s.words.now s.mark theta.old pairs.old.cells.now pairs.old.waiting) result }
-    ensures map_unchanged { (map.new ≡ map.old) × (memo.new ≡ memo.old) × (seen.new ≡ seen.old) }
+    ensures same_cells { SameCells scratch.old scratch.new }
+    ensures solved_as { let s = store.old in let t = store.new in let x = scratch.old in SolvedAs s.index.now s.words.now t.index.now t.words.now s.mark t.mark theta.new
+        (solves (suc count) s.index.now s.words.now s.mark theta.old x.pairs.now x.waiting) result }
+    ensures unchanged { let x = scratch.old in let y = scratch.new in (y.map.now ≡ x.map.now) × (y.memo.now ≡ x.memo.now) × (y.seen.now ≡ x.seen.now) }
 {
     for _round in 0..=count {
-        if let Some(exists) = bind_next(store, theta, map, memo, pairs, seen)? {
+        if let Some(exists) = bind_next(store, theta, scratch)? {
             return Ok(exists);
         }
     }
@@ -110,19 +105,8 @@ pub fn unify(
 {
     scratch.pairs[0] = s as u32;
     scratch.pairs[1] = t as u32;
-    let mut pairs = Pairs {
-        cells: scratch.pairs,
-        waiting: 1,
-    };
-    let result = solve(
-        store,
-        count,
-        theta,
-        scratch.map,
-        scratch.memo,
-        &mut pairs,
-        scratch.seen,
-    );
+    scratch.waiting = 1;
+    let result = solve(store, count, theta, scratch);
     clear(scratch.pairs);
     if result.unwrap_or(false) {
         return result;

@@ -1,3 +1,4 @@
+use Rattle.std.proofs.Common.{refl}
 use Rattle.std.proofs.lemmas.Result.{err_from_is_err_and}
 use Rattle.terms.specs.Laws.Zeros.{part_wiped}
 use Rattle.unification.proofs.Extends.{map_back, memo_long, extend_ready, extended_ok, extended_err}
@@ -11,17 +12,23 @@ returns-in_err-changed-clause-extended c =
     let p = err_from_is_err_and c.from_residual.result c.from_residual.ensures.1 in
     rw (p.1, p.2) (extended_err _ _ _ _ _ _ _ _ c.requires _ _ c.replace_values-changed.new.theta _ c.replace_values-changed.result c.replace_values-changed.ensures.changed_as _ c.in_err-changed.was c.replace_values-changed.auto.theta)
 
-pub returns-in_err-changed-clause-map_unchanged : goal.returns-in_err-changed-clause-map_unchanged
-returns-in_err-changed-clause-map_unchanged c = (
+pub returns-in_err-changed-clause-unchanged : goal.returns-in_err-changed-clause-unchanged
+returns-in_err-changed-clause-unchanged c = (
   map_back _ _ _ _ _ _ _ _ c.requires,
-  part_wiped c.args.memo.now _ (memo_long _ _ _ _ _ _ _ _ c.requires) c.requires.empty c.replace_values-changed.new.memo _ c.replace_values-changed.auto.memo c.clear.ensures,
+  part_wiped c.args.scratch.now.memo.now _ (memo_long _ _ _ _ _ _ _ _ c.requires) c.requires.empty c.replace_values-changed.new.memo _ c.replace_values-changed.auto.memo c.clear.ensures,
+  refl,
+  refl,
+  refl,
 )
 
 pub returns-clause-extended : goal.returns-clause-extended
 returns-clause-extended c = extended_ok _ _ _ _ _ _ _ _ c.requires _ _ c.replace_values-changed.new.theta _ c.replace_values-changed.result c.replace_values-changed.ensures.changed_as _ c.in_ok-changed.was
 
-pub returns-clause-map_unchanged : goal.returns-clause-map_unchanged
-returns-clause-map_unchanged c = (
+pub returns-clause-unchanged : goal.returns-clause-unchanged
+returns-clause-unchanged c = (
   map_back _ _ _ _ _ _ _ _ c.requires,
-  part_wiped c.args.memo.now _ (memo_long _ _ _ _ _ _ _ _ c.requires) c.requires.empty c.replace_values-changed.new.memo _ c.replace_values-changed.auto.memo c.clear.ensures,
+  part_wiped c.args.scratch.now.memo.now _ (memo_long _ _ _ _ _ _ _ _ c.requires) c.requires.empty c.replace_values-changed.new.memo _ c.replace_values-changed.auto.memo c.clear.ensures,
+  refl,
+  refl,
+  refl,
 )

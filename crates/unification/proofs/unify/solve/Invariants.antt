@@ -1,6 +1,6 @@
 use Rattle.std.proofs.Common.{suc, ◌-◌}
 use Rattle.terms.specs.Lent.{SameTables}
-use Rattle.unification.specs.Pairs.{SameCells}
+use Rattle.unification.specs.Unify.{SameCells}
 use Rattle.unification.proofs.Unifies.{Solving}
 use Rattle.unification.proofs.unify.solve.Given as goal
 
@@ -8,9 +8,10 @@ abbrev pub invariant-loop-round : goal.invariant-loop-round
 invariant-loop-round l =
     let s = l.initial.store in
     let t = l.store in
-    let p = l.initial.pairs in
+    let x = l.initial.scratch in
+    let y = l.scratch in
     record {
       tables : SameTables s t;
-      cells : SameCells p l.pairs;
-      solving : Solving s.index.now s.words.now s.mark l.count l.initial.theta l.initial.map l.initial.memo p.cells.now l.initial.seen p.waiting t.index.now t.words.now l.theta l.map l.memo l.pairs.cells.now l.seen t.mark l.pairs.waiting (suc l.count - l._round);
+      cells : SameCells x y;
+      solving : Solving s.index.now s.words.now s.mark l.count l.initial.theta x.map.now x.memo.now x.pairs.now x.seen.now x.waiting t.index.now t.words.now l.theta y.map.now y.memo.now y.pairs.now y.seen.now t.mark y.waiting (suc l.count - l._round);
     }

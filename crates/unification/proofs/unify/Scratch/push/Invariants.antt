@@ -1,0 +1,14 @@
+use Rattle.std.proofs.Common.{◌≡◌}
+use Rattle.unification.specs.Unify.{SameScratch}
+use Rattle.unification.proofs.Piles.{Piling}
+use Rattle.unification.proofs.unify.Scratch.push.Given as goal
+
+abbrev pub invariant-loop-k : goal.invariant-loop-k
+invariant-loop-k l =
+    let x = l.initial.self in
+    let y = l.self in
+    record {
+      same : SameScratch x y;
+      unchanged : (y.map.now ≡ x.map.now) × (y.memo.now ≡ x.memo.now) × (y.seen.now ≡ x.seen.now);
+      piling : Piling l.words l.left l.right l.count x.pairs.now l.from y.pairs.now l.k;
+    }
