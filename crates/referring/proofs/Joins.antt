@@ -9,14 +9,14 @@ use native.Mathlib.Numerals.{add-one}
 use lib.Dec.{eqb}
 use lib.ListN.{length, get_or, take, drop, drop_of_length-le}
 use lib.Seq.{drop-cons}
-use Rattle.rules.specs.Limits.{FACTS, FACTWORDS, RULEWORDS}
+use Rattle.rules.specs.Limits.{FACTWORDS, RULEWORDS}
 use Rattle.rules.specs.Find.{Set, union, has}
 use Rattle.rules.specs.Laws.Theory.{all_at}
 use Rattle.rules.specs.Laws.Set.{union_empty}
 use Rattle.terms.specs.Sets.{holds, plus}
 use Rattle.terms.specs.Laws.Sets.{plus_has}
 use Rattle.state.specs.Held.{records}
-use Rattle.state.specs.Rows.{hyps_span}
+use Rattle.state.specs.Rows.{FootingAt, hyps_span}
 use Rattle.state.specs.Entries.{part}
 use Rattle.state.specs.FactLaws.{FactRow, fact_row_lem}
 use Rattle.referring.specs.Recall.{fact_of, RecallsFact}
@@ -65,8 +65,8 @@ module _ {facts footings lists : List ℕ} {i : ℕ} (g : RecallsFact facts foot
   abbrev row : FactRow (records facts footings lists) g.n g.trees g.S i (fact_of g.S i)
   row = fact_row_lem g.recorded i g.there
 
-  pub join_asks : (footing : List ℕ) → length footing ≡ RULEWORDS → (length footings ≡ 4 * FACTS) × (i < FACTS) × (length footing ≡ 4)
-  join_asks footing e = let a = footing_asks g.recorded g.there in (a.0, a.1, e)
+  pub join_asks : (footing : List ℕ) → length footing ≡ RULEWORDS → FootingAt footings i × (length footing ≡ 4)
+  join_asks footing e = (footing_asks g.recorded g.there, e)
 
   pub footing_joins : (before after : List ℕ) → holds after ≡ union (holds before) (holds (take 4 (drop (4 * i) footings))) →
       holds after ≡ union (holds before) (has (fact_of g.S i).footing)

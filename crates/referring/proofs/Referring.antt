@@ -3,10 +3,10 @@ use mathlib.Core.Path.{◌≡◌, refl, sym, ap, ◌∙◌, subst}
 use mathlib.Core.Bool.{true, false}
 use Rattle.std.specs.Prelude.{Option, Some as some, None as nothing, Result}
 use mathlib.Core.List.{List, [], ◌∷◌}
-use Prim.Native.Nat.{ℕ, ◌-◌, ◌*◌, ◌<◌, ◌≤◌}
+use Prim.Native.Nat.{ℕ, ◌-◌, ◌<◌, ◌≤◌}
 use native.Mathlib.Omega.{arith}
 use lib.ListN.{length, get_or, take, drop, replicate, length-replicate}
-use Rattle.rules.specs.Limits.{TERMS, FACTS}
+use Rattle.rules.specs.Limits.{TERMS}
 use Rattle.rules.specs.Out.{Out, ok, refuse, then, ask, found}
 use Rattle.rules.specs.Sexp.{Sexp, Sexps, atom, nil, cons, item, rest}
 use Rattle.rules.specs.Tree.{Tree, var, sub}
@@ -32,7 +32,7 @@ use Rattle.terms.specs.Laws.Numbers.{stored_is}
 use Rattle.state.specs.declared.sizes.Sizes.{Sizes}
 use Rattle.cells.specs.declared.Span.{Span}
 use Rattle.state.specs.Held.{Names, records, Recorded}
-use Rattle.state.specs.Rows.{cell, hyps_span}
+use Rattle.state.specs.Rows.{cell, FactAt, hyps_span}
 use Rattle.state.specs.Entries.{part_long}
 use Rattle.state.specs.FactLaws.{fact_row_lem, lists_long}
 use Rattle.reading.specs.Items.{FirstItem, index_in, index_found}
@@ -116,7 +116,7 @@ module _ {text facts : List ℕ} {n : Sizes} {m : Mark} {cells : List ℕ} (g : 
             earlier = fact_here g.recorded l;
           }
 
-  pub bare_asks : {i : ℕ} → i < n.facts → (length facts ≡ 6 * FACTS) × (i < FACTS)
+  pub bare_asks : {i : ℕ} → i < n.facts → FactAt facts i
   bare_asks l = fact_asks g.recorded l
 
 -- An instance ------------------------------------------------------------------------------------------------------------------------------
@@ -207,7 +207,7 @@ module _ {K : Names} {facts : List ℕ} {n : Sizes} {I W : List ℕ} {m : Mark} 
           instance_opens d =
               record { there = k; on = on_ask_yes _ 35 (on_fact k) (empty_is (fact_of g.S i).hyps (omega (arith, span_many, d))) }
 
-  pub opens_asks : {i : ℕ} → i < n.facts → (length facts ≡ 6 * FACTS) × (i < FACTS)
+  pub opens_asks : {i : ℕ} → i < n.facts → FactAt facts i
   opens_asks k = fact_asks g.refers.recorded k
 
   -- Behind the bindings

@@ -1,9 +1,8 @@
 -- What an action leaves readable where references are read: the store has grown, and texts and tables stand for the same state, facts included.
 -- And what the functions that read a part of it are given. Assumes nothing.
-use Rattle.std.specs.Prelude.{◌≡◌, refl, List, [], ◌∷◌, ℕ, zero, suc, ◌*◌, ◌<◌, ◌≤◌, length, Option, None as nothing}
+use Rattle.std.specs.Prelude.{◌≡◌, refl, List, [], ◌∷◌, ℕ, zero, suc, ◌<◌, ◌≤◌, length, Option, None as nothing}
 use Rattle.std.proofs.Common.{arith}
 use Rattle.std.proofs.Math.Path.{ap}
-use Rattle.rules.specs.Limits.{FACTS}
 use Rattle.rules.specs.Out.{Out, ok, refuse, found}
 use Rattle.rules.specs.Find.{entry}
 use Rattle.rules.specs.Sexp.{Sexp, Sexps, cons}
@@ -24,6 +23,7 @@ use Rattle.terms.specs.Table.{made, Good}
 use Rattle.terms.specs.On.{Went, Stopped}
 use Rattle.state.specs.declared.sizes.Sizes.{Sizes}
 use Rattle.state.specs.Held.{Names, Records, Recorded}
+use Rattle.state.specs.Rows.{FactAt, FootingAt}
 use Rattle.state.specs.RowCells.{no_fact}
 use Rattle.state.specs.RowTables.{tabled_long, entry_at}
 use Rattle.state.specs.FactLaws.{facts_tabled, footings_tabled}
@@ -139,8 +139,8 @@ module _ {R : Records} {n : Sizes} {M : Made} {S : State} (h : Recorded R n M S)
   fact_none s l = ap (λ (o : Option Fact). found 34 o s) (no_entry S.facts i (omega (arith, l, h.many)))
 
   -- what the readers of a fact ask
-  pub fact_asks : i < n.facts → (length R.facts ≡ 6 * FACTS) × (i < FACTS)
+  pub fact_asks : i < n.facts → FactAt R.facts i
   fact_asks l = (tabled_long (facts_tabled h), omega (arith, l, (facts_tabled h).few))
 
-  pub footing_asks : i < n.facts → (length R.footings ≡ 4 * FACTS) × (i < FACTS)
+  pub footing_asks : i < n.facts → FootingAt R.footings i
   footing_asks l = (tabled_long (footings_tabled h), omega (arith, l, (facts_tabled h).few))

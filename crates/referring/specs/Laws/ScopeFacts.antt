@@ -1,8 +1,8 @@
 -- One fact, as `mention` reads it: its judgment and its premises. Assumes nothing.
-use Rattle.std.specs.Prelude.{◌≡◌, List, ℕ, ◌*◌, ◌<◌, length, get_or}
+use Rattle.std.specs.Prelude.{◌≡◌, List, ℕ, ◌<◌, length, get_or}
 use Rattle.std.proofs.Common.{sym, ◌∙◌, subst, arith}
 use Rattle.std.proofs.Math.Path.{ap}
-use Rattle.rules.specs.Limits.{FACTS, ENTRIES, TERMWORDS, VARIABLEWORDS}
+use Rattle.rules.specs.Limits.{ENTRIES, TERMWORDS, VARIABLEWORDS}
 use Rattle.rules.specs.Find.{Set, union}
 use Rattle.rules.specs.Tree.{Tree, variables, variables_of}
 use Rattle.rules.specs.State.{mentioned}
@@ -15,7 +15,7 @@ use Rattle.terms.specs.Collect.{Readable, Visited}
 use Rattle.terms.specs.Laws.Growth.{made_length}
 use Rattle.state.specs.declared.sizes.Sizes.{Sizes}
 use Rattle.state.specs.Held.{records}
-use Rattle.state.specs.Rows.{cell, premises_span}
+use Rattle.state.specs.Rows.{cell, FactAt, premises_span}
 use Rattle.state.specs.RowTables.{tabled_long}
 use Rattle.state.specs.Entries.{part}
 use Rattle.state.specs.FactLaws.{FactRow, fact_row_lem, facts_tabled, lists_long}
@@ -24,7 +24,7 @@ use Rattle.referring.specs.Referral.{Gathered}
 
 module _ {facts lists : List ℕ} {n : Sizes} {I W : List ℕ} {m : Mark} (g : Recalls facts lists n I W m) {i : ℕ} (l : i < n.facts) where
   -- what the readers of `facts` ask
-  pub fact_there : (length facts ≡ 6 * FACTS) × (i < FACTS)
+  pub fact_there : FactAt facts i
   fact_there = (tabled_long (facts_tabled g.recorded), omega (arith, (facts_tabled g.recorded).few))
 
   pub row : FactRow (records facts g.footings lists) n (made I W m) g.S i (fact_of g.S i)
