@@ -10,7 +10,7 @@ use lib.Dec.{eqb}
 use lib.ListN.{length, get_or, drop, replicate, drop_of_length-le}
 use lib.Seq.{drop-cons}
 use borrow.Author.Tests.{not-true, not-false}
-use Rattle.rules.specs.Limits.{VARIABLES, FACTS, ENTRIES, VARIABLEWORDS}
+use Rattle.rules.specs.Limits.{VARIABLES, FACTS, VARIABLEWORDS}
 use Rattle.rules.specs.Out.{Out, ok, then, Act, ask}
 use Rattle.rules.specs.Find.{Set, all, has, union}
 use Rattle.rules.specs.Store.{Made}
@@ -23,12 +23,11 @@ use Rattle.terms.specs.Sets.{holds}
 use Rattle.terms.specs.Theta.{bindings}
 use Rattle.terms.specs.Laws.Sets.{holds_zero}
 use Rattle.terms.specs.Laws.Theta.{binding, bindings_zero, bindings_some}
-use Rattle.cells.specs.declared.Span.{Span}
 use Rattle.state.specs.Held.{records}
-use Rattle.state.specs.Rows.{cell, hyps_span, premises_span, general_span, plain_row}
+use Rattle.state.specs.Rows.{cell, hyps_span, general_span, plain_row}
 use Rattle.state.specs.Entries.{part}
-use Rattle.state.specs.FactLaws.{FactRow, fact_row_lem, lists_long}
-use Rattle.referring.specs.Recall.{fact_of}
+use Rattle.state.specs.FactLaws.{FactRow, fact_row_lem}
+use Rattle.referring.specs.Recall.{fact_of, RecallsFact}
 use Rattle.referring.specs.Laws.Refers.{fact_asks}
 use Rattle.questions.specs.declared.Question.TheVariants.{Binding as OfBinding, Hypothesis as OfHypothesis}
 use Rattle.derivation.specs.Applying.{RuleFact, rule_of, ApplicableAs}
@@ -41,19 +40,9 @@ module _ {facts lists : List ℕ} {i : ℕ} (g : RuleFact facts lists i) where
   pub rule_asks : (length facts ≡ 6 * FACTS) × (i < FACTS)
   rule_asks = fact_asks g.recorded g.there
 
-  pub rule_lists_lem : length lists ≡ ENTRIES
-  rule_lists_lem = lists_long g.recorded
-
-  -- Spans ------------------------------------------------------------------------------------------------------------------------
-
-  pub hyps_ends : ((hyps_span facts i).from ≤ (hyps_span facts i).end) × ((hyps_span facts i).end ≤ length lists)
-  hyps_ends = (omega arith, omega (arith, rule_row_lem.inside, rule_lists_lem))
-
-  pub premises_ends : ((premises_span facts i).from ≤ (premises_span facts i).end) × ((premises_span facts i).end ≤ length lists)
-  premises_ends = (omega arith, omega (arith, rule_row_lem.inside, rule_lists_lem))
-
-  pub general_ends : ((general_span facts i).from ≤ (general_span facts i).end) × ((general_span facts i).end ≤ length lists)
-  general_ends = (omega arith, omega (arith, rule_row_lem.inside, rule_lists_lem))
+  -- what the readers of its lists ask
+  pub rule_recalls : (footings : List ℕ) × RecallsFact facts footings lists i
+  rule_recalls = (g.footings, record { S = g.S; n = g.n; trees = g.trees; recorded = g.recorded; there = g.there })
 
 -- Tests on a list -------------------------------------------------------------------------------------------------------------------
 
@@ -81,30 +70,25 @@ pub record GeneralLeft (facts lists : List ℕ) (i : ℕ) (bound own : List ℕ)
   pub decides : (g : RuleFact facts lists i) (M : Made) → all (among (fact_of g.S i).general) (bindings M bound 0)
       ≡ all (among (fact_of g.S i).general) (bindings M (drop v bound) v)
 
-module _ {facts lists : List ℕ} {i : ℕ} (g : RuleFact facts lists i) {s : Span} (e : s ≡ general_span facts i) where
-  pub general_low : s.from ≤ s.end
-  general_low = let a = ap (λ (z : Span). z.from) e in let b = ap (λ (z : Span). z.end) e in omega arith
+module _ {facts lists : List ℕ} {i : ℕ} {vs : List ℕ} (e : vs ≡ part lists (general_span facts i)) where
+  module _ (g : RuleFact facts lists i) where
+    general_is : vs ≡ (fact_of g.S i).general
+    general_is = e ∙ (rule_row_lem g).general
 
-  pub general_high : s.end ≤ length lists
-  general_high = let b = ap (λ (z : Span). z.end) e in omega (arith, (general_ends g).1)
+    pub general_small : (k : ℕ) → k < length vs → get_or vs k 0 < VARIABLES
+    general_small k l =
+        let f = general_is in
+        let a = all_at (fact_of g.S i).general k 0 (rule_row_lem g).general_below (omega (arith, ap length f)) in
+        let b : get_or vs k 0 ≡ get_or (fact_of g.S i).general k 0 = ap (λ (l : List ℕ). get_or l k 0) f in
+        omega (arith, g.recorded.rows.row7)
 
-  general_is : part lists s ≡ (fact_of g.S i).general
-  general_is = ap (part lists) e ∙ (rule_row_lem g).general
-
-  pub general_small : (k : ℕ) → k < length (part lists s) → get_or (part lists s) k 0 < VARIABLES
-  general_small k l =
-      let f = general_is in
-      let a = all_at (fact_of g.S i).general k 0 (rule_row_lem g).general_below (omega (arith, ap length f)) in
-      let b : get_or (part lists s) k 0 ≡ get_or (fact_of g.S i).general k 0 = ap (λ (l : List ℕ). get_or l k 0) f in
-      omega (arith, g.recorded.rows.row7)
-
-pub general_begins : (facts lists : List ℕ) (i : ℕ) (bound zeros own : List ℕ) (s : Span) → s ≡ general_span facts i → zeros ≡ replicate VARIABLEWORDS 0 →
-    holds own ≡ union (holds zeros) (has (part lists s)) → GeneralLeft facts lists i bound own 0
-general_begins facts lists i bound zeros own s e z h =
-    record {
-      has_own = λ g. h ∙ ap (λ (a : Set). union a (has (part lists s))) (ap holds z ∙ holds_zero VARIABLEWORDS) ∙ ap has (general_is g e);
-      decides = λ g M. refl;
-    }
+  pub general_begins : (bound zeros own : List ℕ) → zeros ≡ replicate VARIABLEWORDS 0 → holds own ≡ union (holds zeros) (has vs) →
+      GeneralLeft facts lists i bound own 0
+  general_begins bound zeros own z h =
+      record {
+        has_own = λ g. h ∙ ap (λ (a : Set). union a (has vs)) (ap holds z ∙ holds_zero VARIABLEWORDS) ∙ ap has (general_is g);
+        decides = λ g M. refl;
+      }
 
 module _ {facts lists : List ℕ} {i : ℕ} {bound own : List ℕ} {v : ℕ} (h : GeneralLeft facts lists i bound own v) where
   module _ (l : v < length bound) (g : RuleFact facts lists i) (M : Made) where
@@ -154,22 +138,15 @@ pub record HypsLeft (facts lists : List ℕ) (i : ℕ) (hs : List ℕ) (k : ℕ)
   pub below : (g : RuleFact facts lists i) → All (λ h. h < g.n.facts) (drop k hs)
   pub decides : (g : RuleFact facts lists i) → all (plain_at g.S.facts) (fact_of g.S i).hyps ≡ all (plain_at g.S.facts) (drop k hs)
 
-pub hyps_begin : {facts lists : List ℕ} {i : ℕ} {s : Span} → s ≡ hyps_span facts i → HypsLeft facts lists i (part lists s) 0
-hyps_begin {facts} {lists} {i} {s} e =
+pub hyps_begin : {facts lists : List ℕ} {i : ℕ} {hs : List ℕ} → hs ≡ part lists (hyps_span facts i) → HypsLeft facts lists i hs 0
+hyps_begin {facts} {lists} {i} {hs} e =
     record {
       below = λ g. subst (λ (l : List ℕ). All (λ h. h < g.n.facts) l) (sym (are g)) (rule_row_lem g).hyps_below;
       decides = λ g. ap (all (plain_at g.S.facts)) (sym (are g));
     }
   where
-    are : (g : RuleFact facts lists i) → part lists s ≡ (fact_of g.S i).hyps
-    are g = ap (part lists) e ∙ (rule_row_lem g).hyps
-
-module _ {facts lists : List ℕ} {i : ℕ} (g : RuleFact facts lists i) {s : Span} (e : s ≡ hyps_span facts i) where
-  pub hyps_low : s.from ≤ s.end
-  hyps_low = let a = ap (λ (z : Span). z.from) e in let b = ap (λ (z : Span). z.end) e in omega arith
-
-  pub hyps_high : s.end ≤ length lists
-  hyps_high = let b = ap (λ (z : Span). z.end) e in omega (arith, (hyps_ends g).1)
+    are : (g : RuleFact facts lists i) → hs ≡ (fact_of g.S i).hyps
+    are g = e ∙ (rule_row_lem g).hyps
 
 plain_row_lem : {facts lists : List ℕ} {i : ℕ} (g : RuleFact facts lists i) (h : ℕ) → h < g.n.facts → plain_at g.S.facts h ≡ plain_row facts h
 unfolding plain_at

@@ -2,12 +2,12 @@
 use mathlib.Core.Path.{◌≡◌, refl, sym, ap, ◌∙◌, subst}
 use mathlib.Core.Bool.{Bool, true, false, not}
 use mathlib.Core.List.{List, [], ◌∷◌}
-use Prim.Native.Nat.{ℕ, zero, suc, ◌+◌, ◌-◌, ◌*◌, ◌<◌, ◌≤◌}
+use Prim.Native.Nat.{ℕ, zero, suc, ◌-◌, ◌*◌, ◌<◌, ◌≤◌}
 use native.Mathlib.Omega.{arith}
 use lib.Dec.{eqb}
 use lib.ListN.{length, get_or, drop, length-take, length-drop}
 use lib.Seq.{drop-cons}
-use Rattle.rules.specs.Limits.{FACTS}
+use Rattle.rules.specs.Limits.{FACTS, ENTRIES}
 use Rattle.rules.specs.Find.{Set, has, union}
 use Rattle.rules.specs.Tree.{Tree, Trees, var, none, more, count_trees}
 use Rattle.rules.specs.Store.{Made}
@@ -25,13 +25,13 @@ use Rattle.state.specs.declared.sizes.Sizes.{Sizes}
 use Rattle.cells.specs.declared.Span.{Span}
 use Rattle.state.specs.Held.{records, Recorded}
 use Rattle.state.specs.Rows.{cell, hyps_span, premises_span}
-use Rattle.state.specs.Entries.{part, part_at}
+use Rattle.state.specs.Entries.{part}
 use Rattle.state.specs.Numbered.{AllNumbered}
-use Rattle.state.specs.FactLaws.{FactRow, fact_row_lem}
+use Rattle.state.specs.FactLaws.{FactRow, fact_row_lem, lists_long}
 use Rattle.referring.specs.Recall.{fact_of}
 use Rattle.referring.specs.Laws.Refers.{fact_asks}
 use Rattle.derivation.specs.Applying.{RuleFact, rule_of, judgment_numbers, premise_numbers}
-use Rattle.derivation.proofs.RuleFacts.{rule_row_lem, hyps_ends, premises_ends, rule_assumed_lem, rule_derived_lem, assumed_is}
+use Rattle.derivation.proofs.RuleFacts.{rule_row_lem, rule_assumed_lem, rule_derived_lem, assumed_is}
 
 -- Their numbers ----------------------------------------------------------------------------------------------------------------------
 
@@ -63,66 +63,46 @@ module _ (facts lists : List ℕ) (i : ℕ) where
         | false ↦ judgment_numbers facts (part lists (hyps_span facts i))
       ]) e
 
--- the length of a part
-part_length : (l : List ℕ) (s : Span) → s.end ≤ length l → length (part l s) ≡ s.end - s.from
-part_length l s h = omega (arith, length-take (s.end - s.from) (drop s.from l), length-drop s.from l)
+-- a part is no longer than the list
+part_few : (l : List ℕ) (s : Span) → length (part l s) ≤ length l
+part_few l s = omega (arith, length-take (s.end - s.from) (drop s.from l), length-drop s.from l)
 
--- of a hypothesis: s is the span of its premises
-module _ {facts lists : List ℕ} {i : ℕ} (g : RuleFact facts lists i) {b : Bool} (a : b ≡ not (eqb (cell 6 facts i 1) 0)) {s : Span} where
-  module _ (t : b ≡ true) (e : s ≡ premises_span facts i) where
-    pub own_low : s.from ≤ s.end
-    own_low = let x = ap (λ (z : Span). z.from) e in let y = ap (λ (z : Span). z.end) e in omega arith
+-- the premises are few
+pub premises_few : {facts lists : List ℕ} {i : ℕ} → RuleFact facts lists i → length (premise_numbers facts lists i) ≤ ENTRIES
+premises_few {facts} {lists} {i} g = go (not (eqb (cell 6 facts i 1) 0)) refl
+  where
+    go : (b : Bool) → not (eqb (cell 6 facts i 1) 0) ≡ b → length (premise_numbers facts lists i) ≤ ENTRIES
+    go true e = omega (arith, ap length (numbers_assumed facts lists i e), part_few lists (premises_span facts i), lists_long g.recorded)
+    go false e =
+        let hs = part lists (hyps_span facts i) in
+        omega (arith, ap length (numbers_derived facts lists i e), length_judgments facts hs, part_few lists (hyps_span facts i), lists_long g.recorded)
 
-    own_high : s.end ≤ length lists
-    own_high = let y = ap (λ (z : Span). z.end) e in omega (arith, (premises_ends g).1)
+module _ {facts lists : List ℕ} {i : ℕ} (g : RuleFact facts lists i) {b : Bool} (a : b ≡ not (eqb (cell 6 facts i 1) 0)) {own : List ℕ} where
+  -- of a hypothesis: own are its premises
+  pub own_are : b ≡ true → own ≡ part lists (premises_span facts i) → own ≡ premise_numbers facts lists i
+  own_are t e = e ∙ sym (numbers_assumed facts lists i (sym a ∙ t))
 
-    own_are : part lists s ≡ premise_numbers facts lists i
-    own_are = ap (part lists) e ∙ sym (numbers_assumed facts lists i (sym a ∙ t))
+  -- of another fact: own are its hypotheses
+  module _ (t : b ≡ false) (e : own ≡ part lists (hyps_span facts i)) where
+    rests_are : judgment_numbers facts own ≡ premise_numbers facts lists i
+    rests_are = ap (judgment_numbers facts) e ∙ sym (numbers_derived facts lists i (sym a ∙ t))
 
-    pub own_count : s.end - s.from ≡ length (premise_numbers facts lists i)
-    own_count = sym (part_length lists s own_high) ∙ ap length own_are
-
-    module _ {k : ℕ} (l : k < length (premise_numbers facts lists i)) where
-      pub own_inside : s.from + k < length lists
-      own_inside = omega (arith, own_count, own_high, own_low)
-
-      pub own_at : get_or lists (s.from + k) 0 ≡ get_or (premise_numbers facts lists i) k 0
-      own_at = part_at lists s (premise_numbers facts lists i) k own_are l
-
-  -- of another fact: s is the span of its hypotheses
-  module _ (t : b ≡ false) (e : s ≡ hyps_span facts i) where
-    pub rests_low : s.from ≤ s.end
-    rests_low = let x = ap (λ (z : Span). z.from) e in let y = ap (λ (z : Span). z.end) e in omega arith
-
-    rests_high : s.end ≤ length lists
-    rests_high = let y = ap (λ (z : Span). z.end) e in omega (arith, (hyps_ends g).1)
-
-    rests_are : judgment_numbers facts (part lists s) ≡ premise_numbers facts lists i
-    rests_are = ap (λ (z : Span). judgment_numbers facts (part lists z)) e ∙ sym (numbers_derived facts lists i (sym a ∙ t))
-
-    pub rests_count : s.end - s.from ≡ length (premise_numbers facts lists i)
-    rests_count = sym (part_length lists s rests_high) ∙ sym (length_judgments facts (part lists s)) ∙ ap length rests_are
+    pub rests_count : length own ≡ length (premise_numbers facts lists i)
+    rests_count = sym (length_judgments facts own) ∙ ap length rests_are
 
     module _ {k : ℕ} (l : k < length (premise_numbers facts lists i)) where
-      pub rests_inside : s.from + k < length lists
-      rests_inside = omega (arith, rests_count, rests_high, rests_low)
+      pub rests_inside : k < length own
+      rests_inside = omega (arith, rests_count)
 
-      inside_part : k < length (part lists s)
-      inside_part = omega (arith, rests_count, part_length lists s rests_high)
-
-      hyp_at : get_or lists (s.from + k) 0 ≡ get_or (part lists s) k 0
-      hyp_at = part_at lists s (part lists s) k refl inside_part
-
-      pub rests_asks : (length facts ≡ 6 * FACTS) × (get_or lists (s.from + k) 0 < FACTS)
+      pub rests_asks : (length facts ≡ 6 * FACTS) × (get_or own k 0 < FACTS)
       rests_asks =
-          let f : part lists s ≡ (fact_of g.S i).hyps = ap (part lists) e ∙ (rule_row_lem g).hyps in
-          let c = all_at (fact_of g.S i).hyps k 0 (rule_row_lem g).hyps_below (omega (arith, ap length f, inside_part)) in
-          let d : get_or lists (s.from + k) 0 ≡ get_or (fact_of g.S i).hyps k 0 = hyp_at ∙ ap (λ (l : List ℕ). get_or l k 0) f in
+          let f : own ≡ (fact_of g.S i).hyps = e ∙ (rule_row_lem g).hyps in
+          let c = all_at (fact_of g.S i).hyps k 0 (rule_row_lem g).hyps_below (omega (arith, ap length f, rests_inside)) in
+          let d : get_or own k 0 ≡ get_or (fact_of g.S i).hyps k 0 = ap (λ (l : List ℕ). get_or l k 0) f in
           fact_asks g.recorded (omega arith)
 
-      pub rests_at : cell 6 facts (get_or lists (s.from + k) 0) 0 ≡ get_or (premise_numbers facts lists i) k 0
-      rests_at =
-          ap (λ (h : ℕ). cell 6 facts h 0) hyp_at ∙ sym (judgments_at_lem facts (part lists s) k inside_part) ∙ ap (λ (l : List ℕ). get_or l k 0) rests_are
+      pub rests_at : cell 6 facts (get_or own k 0) 0 ≡ get_or (premise_numbers facts lists i) k 0
+      rests_at = sym (judgments_at_lem facts own k rests_inside) ∙ ap (λ (l : List ℕ). get_or l k 0) rests_are
 
 -- Their trees ------------------------------------------------------------------------------------------------------------------------
 

@@ -25,7 +25,7 @@ use referring::support::{Derived, Support, no_support};
 use rules::{TERMWORDS, VARIABLES, VARIABLEWORDS};
 use sexp::items;
 use sexp::items::Item;
-use state::facts::{general, hyps as hyps_of, is_assumed, is_fact, is_plain, judgment, premises};
+use state::facts::{is_assumed, is_fact, is_plain, judgment};
 use terms::sets::{has, insert};
 use terms::store::Store;
 use terms::substitute::substitute;
@@ -43,10 +43,7 @@ fn rests_on_plain(facts: &Facts<'_>, i: usize) -> bool
     requires { RuleIn facts.now i }
     ensures { (g : RuleIn facts.now i) → result ≡ all (plain_at g.S.facts) (fact_of g.S i).hyps }
 {
-    let span = hyps_of(facts.rows, i);
-    let from = span.from;
-    let end = span.end;
-    for h in &facts.lists[from..end] {
+    for h in facts.hyps(i) {
         if !is_plain(facts.rows, *h as usize) {
             return false;
         }
@@ -60,11 +57,9 @@ fn premises_of(facts: &Facts<'_>, i: usize) -> usize
     ensures { result ≡ length (premise_numbers facts.now.rows.now facts.now.lists.now i) }
 {
     if is_assumed(facts.rows, i) {
-        let own = premises(facts.rows, i);
-        return own.end - own.from;
+        return facts.premises(i).len();
     }
-    let own = hyps_of(facts.rows, i);
-    own.end - own.from
+    facts.hyps(i).len()
 }
 
 // Its premise k.
@@ -73,11 +68,9 @@ fn premise(facts: &Facts<'_>, i: usize, k: usize) -> usize
     ensures { result ≡ get_or (premise_numbers facts.now.rows.now facts.now.lists.now i) k 0 }
 {
     if is_assumed(facts.rows, i) {
-        let own = premises(facts.rows, i);
-        return facts.lists[own.from + k] as usize;
+        return facts.premises(i)[k] as usize;
     }
-    let own = hyps_of(facts.rows, i);
-    judgment(facts.rows, facts.lists[own.from + k] as usize)
+    judgment(facts.rows, facts.hyps(i)[k] as usize)
 }
 
 // A hypothesis that is used as a rule is rested on.
@@ -97,10 +90,7 @@ impl Rule<'_> {
         ensures { (g : RuleIn facts.now self.now.fact) (M : Made) → result ≡ all (λ b. has_number (fact_of g.S self.now.fact).general b.variable) (bindings_of M self.now.bound.now 0) }
     {
         let mut own = [0u64; VARIABLEWORDS];
-        let span = general(facts.rows, self.fact);
-        let from = span.from;
-        let end = span.end;
-        insert_all(&facts.lists[from..end], &mut own);
+        insert_all(facts.general(self.fact), &mut own);
         for (v, cell) in self.bound.iter().enumerate() {
             if *cell != 0 && !has(&own, v) {
                 return false;

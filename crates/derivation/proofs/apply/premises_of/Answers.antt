@@ -1,18 +1,20 @@
-use Rattle.derivation.proofs.RulePremises.{own_count, rests_count}
-use Rattle.derivation.proofs.RuleFacts.{rule_asks}
+use mathlib.Core.Path.{ap}
+use lib.ListN.{length}
+use Rattle.derivation.proofs.RulePremises.{own_are, rests_count}
+use Rattle.derivation.proofs.RuleFacts.{rule_asks, rule_recalls}
 use Rattle.derivation.proofs.apply.premises_of.Goals as goal
 
 pub is_assumed-requires : goal.is_assumed-requires
 is_assumed-requires c = rule_asks c.requires
 
-pub premises-own-requires : goal.premises-own-requires
-premises-own-requires c = rule_asks c.requires
+pub premises-requires : goal.premises-requires
+premises-requires c = rule_recalls c.requires
 
 pub returns-then-is_assumed : goal.returns-then-is_assumed
-returns-then-is_assumed c = own_count c.requires c.is_assumed.ensures c.if-is_assumed.true c.premises-own.ensures
+returns-then-is_assumed c = ap length (own_are c.requires c.is_assumed.ensures c.if-is_assumed.true c.premises.ensures)
 
-pub hyps-own-requires : goal.hyps-own-requires
-hyps-own-requires c = rule_asks c.requires
+pub hyps-requires : goal.hyps-requires
+hyps-requires c = rule_recalls c.requires
 
 pub returns : goal.returns
-returns c = rests_count c.requires c.is_assumed.ensures c.if-is_assumed.false c.hyps-own.ensures
+returns c = rests_count c.requires c.is_assumed.ensures c.if-is_assumed.false c.hyps.ensures

@@ -1,14 +1,13 @@
-use native.Mathlib.Omega.{arith}
-use Rattle.derivation.proofs.RuleFacts.{rule_asks, rule_lists_lem, hyps_low, hyps_high, hyps_begin, hyp_asks, hyp_other, hyps_again, hyps_done}
+use Rattle.derivation.proofs.RuleFacts.{rule_recalls, hyps_begin, hyp_asks, hyp_other, hyps_again, hyps_done}
 use mathlib.Core.Path.{ap}
 use mathlib.Core.Bool.{not}
 use Rattle.derivation.proofs.apply.rests_on_plain.Goals as goal
 
-pub hyps-span-requires : goal.hyps-span-requires
-hyps-span-requires c = rule_asks c.requires
+pub hyps-h-items-requires : goal.hyps-h-items-requires
+hyps-h-items-requires c = rule_recalls c.requires
 
 pub loop-h-init : goal.loop-h-init
-loop-h-init c = hyps_begin c.hyps-span.ensures
+loop-h-init c = hyps_begin c.hyps-h-items.ensures
 
 pub is_plain-requires : goal.is_plain-requires
 is_plain-requires c = hyp_asks c.loop-h.invariant c.loop-h-test.true c.requires
@@ -21,9 +20,3 @@ loop-h-preserved c = hyps_again c.loop-h.invariant c.loop-h-test.true c.is_plain
 
 pub returns : goal.returns
 returns c = λ g. hyps_done c.loop-h.invariant c.loop-h-test.false g
-
-pub slice_bounds-h-items-end : goal.slice_bounds-h-items-end
-slice_bounds-h-items-end c = hyps_high c.requires c.hyps-span.ensures
-
-pub offset_bounds-facts-from : goal.offset_bounds-facts-from
-offset_bounds-facts-from c = omega (arith, hyps_low c.requires c.hyps-span.ensures, hyps_high c.requires c.hyps-span.ensures, rule_lists_lem c.requires)
