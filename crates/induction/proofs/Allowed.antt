@@ -37,12 +37,12 @@ use Rattle.induction.proofs.Rests.{other, rows_are}
 
 -- One hypothesis ------------------------------------------------------------------------------------------------------------------------------
 
-module _ {facts lists : List ℕ} {n : Sizes} {plain used : List ℕ} {x w : ℕ} {ids : List ℕ} {many : ℕ} (g : Resting facts lists n plain used x w ids many) where
+module _ {facts lists : List ℕ} {n : Sizes} {plain used : List ℕ} {x w : ℕ} {ids : List ℕ} (g : Resting facts lists n plain used x w ids) where
   abbrev M : Made
   M = made g.I g.W g.m
 
   abbrev ihs : List Hyp
-  ihs = hyps_in M w many ids
+  ihs = hyps_in M w g.many ids
 
   pub rest_facts : {h : ℕ} → h < n.facts → (length facts ≡ 6 * FACTS) × (h < FACTS)
   rest_facts l = (tabled_long (facts_tabled g.recorded), omega (arith, g.recorded.many, g.recorded.rows.row12, l))
@@ -94,12 +94,12 @@ module _ {facts lists : List ℕ} {n : Sizes} {plain used : List ℕ} {x w : ℕ
       rule_bound q = sym (rule_is ∙ ap (λ (b : Bool). b && among_hyps) q)
 
       pub rule_rows : t ≡ true → {ps : List ℕ} → ps ≡ part lists (premises_span facts h) → (j : ℕ) → j ≡ cell 6 facts h 0 → (v : Bool) →
-          v ≡ row_among w many ids ps j → v ≡ rule
+          v ≡ row_among w g.many ids ps j → v ≡ rule
       rule_rows y {ps} u j q v o =
           let P = (fact_of g.S h).premises in
           let below : Below g.m.terms (numbers M P) = λ k p. omega (arith, all_at (numbers M P) k 0 row.numbered.below p, made_length g.I g.W g.m) in
-          o ∙ (λ i. row_among w many ids ((u ∙ row.premises) i) (q i))
-          ∙ sym (rows_are g.good w (numbers M P) (cell 6 facts h 0) below judged many ids g.room g.known)
+          o ∙ (λ i. row_among w g.many ids ((u ∙ row.premises) i) (q i))
+          ∙ sym (rows_are g.good w (numbers M P) (cell 6 facts h 0) below judged g.many ids g.filled g.known)
           ∙ (λ i. any (λ y. same_trees y.premises (row.numbered.trees i) && same_tree y.judgment (row.judgment.tree i)) ihs)
           ∙ sym (rule_is ∙ ap (λ (b : Bool). b && among_hyps) y)
 
@@ -159,23 +159,23 @@ module _ {p : ℕ → Bool} {n : Sizes} {hs cells : List ℕ} {k : ℕ} (h : All
         rest_each : {x : ℕ} {xs : List ℕ} → All (λ h. h < n.facts) (x ∷ xs) → All (λ h. h < n.facts) xs
         rest_each (both a b) = b
 
-module _ {facts lists : List ℕ} {n : Sizes} {plain used : List ℕ} {x w : ℕ} {ids : List ℕ} {many : ℕ} (g : Resting facts lists n plain used x w ids many) (i : ℕ)
+module _ {facts lists : List ℕ} {n : Sizes} {plain used : List ℕ} {x w : ℕ} {ids : List ℕ} (g : Resting facts lists n plain used x w ids) (i : ℕ)
     (l : i < n.facts) where
   -- what is asked of each
   abbrev pub asked : ℕ → Bool
-  asked h = allowed_hyp g.M g.ps (hyps_in (made g.I g.W g.m) w many ids) (entry g.S.facts h)
+  asked h = allowed_hyp g.M g.ps (hyps_in (made g.I g.W g.m) w g.many ids) (entry g.S.facts h)
 
   allowing_start : Allowing asked n (fact_of g.S i).hyps (part lists (hyps_span facts i)) 0
   allowing_start =
       record { on = ap (all asked) (sym (row g i l).hyps); each = subst (All (λ h. h < n.facts)) (sym (row g i l).hyps) (row g i l).hyps_below }
 
 -- of whatever the tables stand for
-abbrev pub Allows : (facts lists : List ℕ) (n : Sizes) (i : ℕ) (plain used : List ℕ) (x w : ℕ) (ids : List ℕ) (many : ℕ) (cells : List ℕ) (k : ℕ) → Type 0
-Allows facts lists n i plain used x w ids many cells k =
-    (g : Resting facts lists n plain used x w ids many) (l : i < n.facts) → Allowing (asked g i l) n (fact_of g.S i).hyps cells k
+abbrev pub Allows : (facts lists : List ℕ) (n : Sizes) (i : ℕ) (plain used : List ℕ) (x w : ℕ) (ids cells : List ℕ) (k : ℕ) → Type 0
+Allows facts lists n i plain used x w ids cells k =
+    (g : Resting facts lists n plain used x w ids) (l : i < n.facts) → Allowing (asked g i l) n (fact_of g.S i).hyps cells k
 
-pub allows_start : {facts lists : List ℕ} {n : Sizes} {i : ℕ} {plain used : List ℕ} {x w : ℕ} {ids : List ℕ} {many : ℕ} {own : List ℕ} → own ≡ part lists (hyps_span facts i) →
-    Allows facts lists n i plain used x w ids many own 0
+pub allows_start : {facts lists : List ℕ} {n : Sizes} {i : ℕ} {plain used : List ℕ} {x w : ℕ} {ids own : List ℕ} → own ≡ part lists (hyps_span facts i) →
+    Allows facts lists n i plain used x w ids own 0
 allows_start {n = n} {i} e g l = subst (λ (cells : List ℕ). Allowing (asked g i l) n (fact_of g.S i).hyps cells 0) (sym e) (allowing_start g i l)
 
 -- Questions 34, 43 and 44 -------------------------------------------------------------------------------------------------------------------------
@@ -186,18 +186,18 @@ entry_over [] i l = refl
 entry_over (x ∷ xs) zero l = absurd (omega arith)
 entry_over (x ∷ xs) (suc i) l = entry_over xs i (omega arith)
 
-module _ {facts lists : List ℕ} {n : Sizes} {plain used : List ℕ} {x w : ℕ} {ids : List ℕ} {many : ℕ} (g : Resting facts lists n plain used x w ids many) (i j : ℕ) where
+module _ {facts lists : List ℕ} {n : Sizes} {plain used : List ℕ} {x w : ℕ} {ids : List ℕ} (g : Resting facts lists n plain used x w ids) (i j : ℕ) where
   abbrev T : Made
   T = made g.I g.W g.m
 
   abbrev given : Out Made (Unit {0})
-  given = case_fact g.S g.M g.ps (hyps_in T w many ids) i (tree g.I g.W g.m j) T
+  given = case_fact g.S g.M g.ps (hyps_in T w g.many ids) i (tree g.I g.W g.m j) T
 
   pub fact_missing : (r : Bool) → r ≡ ltb i n.facts → r ≡ false → given ≡ refuse 34 0 T
   unfolding case_fact fact_at then
   fact_missing r e f =
       ap (λ (o : Option Fact). then (found 34 o T) (λ f U. then (ask 43 (same_tree f.judgment (tree g.I g.W g.m j)) U)
-      (λ z N. ask 44 (all (λ h. allowed_hyp g.M g.ps (hyps_in T w many ids) (entry g.S.facts h)) f.hyps) N)))
+      (λ z N. ask 44 (all (λ h. allowed_hyp g.M g.ps (hyps_in T w g.many ids) (entry g.S.facts h)) f.hyps) N)))
       (entry_over g.S.facts i (omega (arith, ltb-false i n.facts (sym e ∙ f), g.recorded.many)))
 
   module _ (l : i < n.facts) (there : j < g.m.terms) where
@@ -211,7 +211,7 @@ module _ {facts lists : List ℕ} {n : Sizes} {plain used : List ℕ} {x w : ℕ
     unfolding case_fact fact_at then
     found_here =
         ap (λ (o : Option Fact). then (found 34 o T) (λ f U. then (ask 43 (same_tree f.judgment (tree g.I g.W g.m j)) U)
-        (λ z N. ask 44 (all (λ h. allowed_hyp g.M g.ps (hyps_in T w many ids) (entry g.S.facts h)) f.hyps) N))) (row g i l).is
+        (λ z N. ask 44 (all (λ h. allowed_hyp g.M g.ps (hyps_in T w g.many ids) (entry g.S.facts h)) f.hyps) N))) (row g i l).is
         ∙ ap (λ (b : Bool). then (ask 43 b T) (λ z N. ask 44 (all (asked g i l) (fact_of g.S i).hyps) N)) same
 
     pub fact_other : (k : ℕ) → k ≡ cell 6 facts i 0 → (k ≡ j → ⊥) → given ≡ refuse 43 0 T

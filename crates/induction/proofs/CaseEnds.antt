@@ -3,7 +3,7 @@ use mathlib.Core.Path.{◌≡◌, refl, sym, ap, ◌∙◌, subst}
 use mathlib.Core.List.{List, [], ◌∷◌, ◌++◌}
 use Prim.Native.Nat.{ℕ, zero, suc, ◌*◌, ◌<◌, ◌≤◌}
 use native.Mathlib.Omega.{arith}
-use native.Mathlib.Nat.{suc-mul}
+use Rattle.std.proofs.Math.Nat.{mul-le-mul_right}
 use lib.Dec.{eqb}
 use borrow.Author.Tests.{eq-eqb, ne_eqb}
 use lib.ListN.{length, take, drop, replicate, length-drop, length-replicate, length-append}
@@ -29,12 +29,8 @@ use Rattle.referring.specs.Substitutes.{Below}
 use Rattle.referring.specs.Laws.Substitutes.{below_grown}
 use Rattle.induction.specs.Inducing.{Roomy, PassedBy, motive_in, Moved, Casing, at_constructor, hyps_in, HypsMade, BeforeRest, case_fact, asked, case_terms, InCase}
 use Rattle.induction.proofs.Inducts.{among_has}
+use Rattle.induction.proofs.Supposes.{hyps_front}
 use Rattle.referring.specs.Laws.Sounds.{grown_grows}
-
-pub mul_mono : (a b c : ℕ) → a ≤ b → a * c ≤ b * c
-mul_mono zero b c p = omega arith
-mul_mono (suc a) zero c p = absurd (omega arith)
-mul_mono (suc a) (suc b) c p = omega (arith, mul_mono a b c (omega arith), suc-mul a c, suc-mul b c)
 
 pub none_cells : (M : Made) (xs : List ℕ) → is_none (args_of M xs) ≡ eqb (length xs) 0
 unfolding is_none args_of
@@ -108,8 +104,8 @@ module _ {facts lists : List ℕ} {n : Sizes} {I W : List ℕ} {m : Mark} {x sor
             Stopped I W Y Z m (case_terms h.S (motive_in (made I W m) x sort j premises) i c own sorts (made I W m)) q d end
         end_unsupposed f h i = on_no _ (next h i) f
 
-        module _ {many : ℕ}
-            (supposed : HypsMade J X Y Z new (hypotheses (motive_in (made J X new) x sort j premises) own sorts (made J X new)) (length premises) (length own) ids' many end) where
+        module _ {stop : ℕ}
+            (supposed : HypsMade J X Y Z new (hypotheses (motive_in (made J X new) x sort j premises) own sorts (made J X new)) (length premises) (length own) ids' stop end) where
           pub plain_right : (plain : List ℕ) → holds plain ≡ union (holds (replicate TERMWORDS 0)) (has (take (length premises) (last ++ drop (length premises) ids))) → (t : ℕ) → t < end.terms →
               holds plain t ≡ among (args_of (made J X new) last) (tree Y Z end t)
           plain_right plain q t l =
@@ -118,14 +114,28 @@ module _ {facts lists : List ℕ} {n : Sizes} {I W : List ℕ} {m : Mark} {x sor
               ∙ sym (among_has supposed.went.grown.good last b t l)
               ∙ ap (λ (ts : Trees). among ts (tree Y Z end t)) (grown_args supposed.went.grown last moved.known)
 
-          pub end_rows : length ids' ≡ length (last ++ drop (length premises) ids) → many * suc (length premises) ≤ length ids'
-          end_rows y = omega (arith, mul_mono many 16 (suc (length premises)) (omega (arith, supposed.few, k.0.narrow)), g.motived.few, y, back_long, s.1)
+          pub end_rows : length ids' ≡ length (last ++ drop (length premises) ids) → stop ≤ length ids'
+          end_rows y =
+              omega (
+                arith,
+                supposed.place,
+                mul-le-mul_right (suc (length premises)) (let z : supposed.many ≤ 16 = omega (arith, supposed.few, k.0.narrow) in z),
+                g.motived.few,
+                y,
+                back_long,
+                s.1,
+              )
+
+          rows_same : hyps_in (made Y Z end) (length premises) supposed.many ids' ≡ hyps_in (made Y Z end) (length premises) supposed.many (take stop ids')
+          rows_same =
+              hyps_front (made Y Z end) (length premises) supposed.many ids'
+              ∙ ap (λ (n : ℕ). hyps_in (made Y Z end) (length premises) supposed.many (take n ids')) (sym supposed.place)
 
           module _ (plain : List ℕ) (z : length plain ≡ length {A = ℕ} (replicate TERMWORDS 0))
               (q : holds plain ≡ union (holds (replicate TERMWORDS 0)) (has (take (length premises) (last ++ drop (length premises) ids))))
               (y : length ids' ≡ length (last ++ drop (length premises) ids)) where
             -- what the questions of the fact are given
-            abbrev pub resting : InCase facts lists n I W m x sort j premises used → BeforeRest facts lists n plain used x (length premises) ids' many t
+            abbrev pub resting : InCase facts lists n I W m x sort j premises used → BeforeRest facts lists n plain used x (length premises) (take stop ids') t
             resting h =
                 record {
                   S = h.S;
@@ -135,6 +145,7 @@ module _ {facts lists : List ℕ} {n : Sizes} {I W : List ℕ} {m : Mark} {x sor
                   m = end;
                   M = motive_in (made I W m) x sort j premises;
                   ps = args_of (made J X new) last;
+                  many = supposed.many;
                   recorded = recorded_on (grown_grows (grown_trans moved.went.grown supposed.went.grown)) h.recorded;
                   good = supposed.went.grown.good;
                   variable_is = refl;
@@ -144,21 +155,22 @@ module _ {facts lists : List ℕ} {n : Sizes} {I W : List ℕ} {m : Mark} {x sor
                   plain_are = plain_right plain q;
                   long = z ∙ length-replicate {A = ℕ} TERMWORDS 0;
                   narrow = h.motived.few;
-                  room = end_rows y;
+                  filled = length-take-le stop ids' (end_rows y) ∙ supposed.place;
                   known = supposed.known;
                   there = grown_there supposed.went.grown t moved.there;
                 }
 
             last_step : (h : InCase facts lists n I W m x sort j premises used) (i : ℕ) →
                 On I W m (case_terms h.S (motive_in (made I W m) x sort j premises) i c own sorts (made I W m)) Y Z end
-                (case_fact h.S (motive_in (made I W m) x sort j premises) (args_of (made J X new) last) (hyps_in (made Y Z end) (length premises) many ids') i (tree Y Z end t) (made Y Z end))
+                (case_fact h.S (motive_in (made I W m) x sort j premises) (args_of (made J X new) last)
+                (hyps_in (made Y Z end) (length premises) supposed.many (take stop ids')) i (tree Y Z end t) (made Y Z end))
             last_step h i =
                 on_is (on_ok _ (next h i) supposed.went)
-                (ap (λ (u : Tree). case_fact h.S (motive_in (made I W m) x sort j premises) (args_of (made J X new) last) (hyps_in (made Y Z end) (length premises) many ids') i u (made Y Z end))
-                (sym (grown_tree supposed.went.grown t moved.there)))
+                (λ e. case_fact h.S (motive_in (made I W m) x sort j premises) (args_of (made J X new) last) (rows_same e) i
+                (sym (grown_tree supposed.went.grown t moved.there) e) (made Y Z end))
 
             pub end_passed : (h : InCase facts lists n I W m x sort j premises used) (i : ℕ) (r : Result (Unit {0}) Question) →
-                ((b : BeforeRest facts lists n plain used x (length premises) ids' many t) →
-                case_fact b.S b.M b.ps (hyps_in (made b.I b.W b.m) (length premises) many ids') i (tree b.I b.W b.m t) (made b.I b.W b.m) ≡ asked r (made b.I b.W b.m)) →
+                ((b : BeforeRest facts lists n plain used x (length premises) (take stop ids') t) →
+                case_fact b.S b.M b.ps (hyps_in (made b.I b.W b.m) (length premises) b.many (take stop ids')) i (tree b.I b.W b.m t) (made b.I b.W b.m) ≡ asked r (made b.I b.W b.m)) →
                 PassedBy I W Y Z m end (case_terms h.S (motive_in (made I W m) x sort j premises) i c own sorts (made I W m)) r
             end_passed h i r u = passed r (last_step h i) (u (resting h))

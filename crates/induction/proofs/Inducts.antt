@@ -162,25 +162,26 @@ module _ {I W : List ℕ} {m : Mark} (g : Good I W m) where
       swap a b = eqb_iff a b b a (λ e. sym e) (λ e. sym e)
 
   -- rows without premises
-  pub judgments_has : (many : ℕ) (ids : List ℕ) → many ≤ length ids → Below m.terms (take many ids) → (t : ℕ) → t < m.terms →
-      any (λ i. same_tree i.judgment (tree I W m t)) (hyps_in (made I W m) 0 many ids) ≡ has (take many ids) t
+  pub judgments_has : (many : ℕ) (ids : List ℕ) → length ids ≡ many → Below m.terms ids → (t : ℕ) → t < m.terms →
+      any (λ i. same_tree i.judgment (tree I W m t)) (hyps_in (made I W m) 0 many ids) ≡ has ids t
   unfolding any hyps_in has
-  judgments_has zero ids r b t l = refl
+  judgments_has zero [] r b t l = refl
+  judgments_has zero (y ∷ ys) r b t l = absurd (omega arith)
   judgments_has (suc many) [] r b t l = absurd (omega arith)
   judgments_has (suc many) (y ∷ ys) r b t l =
       let e : same_tree (tree I W m y) (tree I W m t) ≡ eqb t y = same_number g y t (b 0 (omega arith)) l ∙ eqb_iff y t t y (λ z. sym z) (λ z. sym z) in
       let ih = judgments_has many ys (omega arith) (λ k p. b (suc k) (omega arith)) t l in
       λ i. elim (e i) [ true ↦ true | false ↦ ih i ]
 
-module _ {facts lists : List ℕ} {n : Sizes} {plain used : List ℕ} {x w : ℕ} {ids : List ℕ} {many j : ℕ} (g : BeforeRest facts lists n plain used x w ids many j) where
+module _ {facts lists : List ℕ} {n : Sizes} {plain used : List ℕ} {x w : ℕ} {ids : List ℕ} {j : ℕ} (g : BeforeRest facts lists n plain used x w ids j) where
   -- the motive has premises: the set is as it should be
   pub plain_with : (w ≡ 0 → ⊥) → (t : ℕ) → t < g.m.terms →
-      holds plain t ≡ plain_at g.M g.ps (hyps_in (made g.I g.W g.m) w many ids) (tree g.I g.W g.m t)
+      holds plain t ≡ plain_at g.M g.ps (hyps_in (made g.I g.W g.m) w g.many ids) (tree g.I g.W g.m t)
   unfolding plain_at
   plain_with q t l =
       g.plain_are t l
       ∙ sym (or_none (among g.ps (tree g.I g.W g.m t))
-      (ap (λ (b : Bool). b && any (λ i. same_tree i.judgment (tree g.I g.W g.m t)) (hyps_in (made g.I g.W g.m) w many ids))
+      (ap (λ (b : Bool). b && any (λ i. same_tree i.judgment (tree g.I g.W g.m t)) (hyps_in (made g.I g.W g.m) w g.many ids))
       (g.premises_are ∙ ne_eqb w 0 q)))
     where
       or_none : (a : Bool) {b : Bool} → b ≡ false → (a || b) ≡ a
@@ -189,28 +190,22 @@ module _ {facts lists : List ℕ} {n : Sizes} {plain used : List ℕ} {x w : ℕ
 
   -- it has none: the judgments of the induction hypotheses are in the set as well
   module _ (q : w ≡ 0) where
-    rows_one : many * suc w ≡ many
-    rows_one = ap (λ (n : ℕ). many * suc n) q ∙ (let z : many * 1 ≡ many = omega arith in z)
+    rows_one : length ids ≡ g.many
+    rows_one = g.filled ∙ ap (λ (n : ℕ). g.many * suc n) q ∙ (let z : g.many * 1 ≡ g.many = omega arith in z)
 
-    pub rest_inside : many ≤ length ids
-    rest_inside = omega (arith, g.room, rows_one)
-
-    pub known_one : Below g.m.terms (take many ids)
-    known_one = subst (λ (n : ℕ). Below g.m.terms (take n ids)) rows_one g.known
-
-    pub plain_without : (plain' : List ℕ) → holds plain' ≡ union (holds plain) (has (take many ids)) → (t : ℕ) → t < g.m.terms →
-        holds plain' t ≡ plain_at g.M g.ps (hyps_in (made g.I g.W g.m) w many ids) (tree g.I g.W g.m t)
+    pub plain_without : (plain' : List ℕ) → holds plain' ≡ union (holds plain) (has ids) → (t : ℕ) → t < g.m.terms →
+        holds plain' t ≡ plain_at g.M g.ps (hyps_in (made g.I g.W g.m) w g.many ids) (tree g.I g.W g.m t)
     unfolding plain_at
     plain_without plain' e t l =
         ap (λ (s : Set). s t) e
-        ∙ (λ i. g.plain_are t l i || sym (judgments_has g.good many ids rest_inside known_one t l) i)
+        ∙ (λ i. g.plain_are t l i || sym (judgments_has g.good g.many ids rows_one g.known t l) i)
         ∙ (λ i. among g.ps (tree g.I g.W g.m t)
-        || (sym (g.premises_are ∙ eq-eqb w 0 q) i && any (λ y. same_tree y.judgment (tree g.I g.W g.m t)) (hyps_in (made g.I g.W g.m) (sym q i) many ids)))
+        || (sym (g.premises_are ∙ eq-eqb w 0 q) i && any (λ y. same_tree y.judgment (tree g.I g.W g.m t)) (hyps_in (made g.I g.W g.m) (sym q i) g.many ids)))
 
   -- what the questions of the fact are given
   abbrev pub rest_given : (plain' : List ℕ) → length plain' ≡ length plain →
-      ((t : ℕ) → t < g.m.terms → holds plain' t ≡ plain_at g.M g.ps (hyps_in (made g.I g.W g.m) w many ids) (tree g.I g.W g.m t)) →
-      Resting facts lists n plain' used x w ids many
+      ((t : ℕ) → t < g.m.terms → holds plain' t ≡ plain_at g.M g.ps (hyps_in (made g.I g.W g.m) w g.many ids) (tree g.I g.W g.m t)) →
+      Resting facts lists n plain' used x w ids
   rest_given plain' a e =
       record {
         S = g.S;
@@ -220,6 +215,7 @@ module _ {facts lists : List ℕ} {n : Sizes} {plain used : List ℕ} {x w : ℕ
         m = g.m;
         M = g.M;
         ps = g.ps;
+        many = g.many;
         recorded = g.recorded;
         good = g.good;
         variable_is = g.variable_is;
@@ -228,6 +224,6 @@ module _ {facts lists : List ℕ} {n : Sizes} {plain used : List ℕ} {x w : ℕ
         plain_are = e;
         long = a ∙ g.long;
         narrow = g.narrow;
-        room = g.room;
+        filled = g.filled;
         known = g.known;
       }

@@ -80,31 +80,43 @@ module _ {own : List ℕ} {used : Set} {x k : ℕ} (h : Generalising own used x 
 
 -- Rows of induction hypotheses --------------------------------------------------------------------------------------------------------------
 
--- so many are left, in these cells
-pub record Rowing (own : List ℕ) (j w : ℕ) (ids : List ℕ) (many : ℕ) (rest : List ℕ) (left : ℕ) : Type 0 where
+-- what is left, and so many rows it is
+pub record Rowing (own : List ℕ) (j w : ℕ) (ids : List ℕ) (many : ℕ) (rest : List ℕ) : Type 0 where
+  pub left : ℕ
   pub on : row_among w many ids own j ≡ row_among w left rest own j
-  pub room : left * suc w ≤ length rest
+  pub filled : length rest ≡ left * suc w
 
-module _ {own : List ℕ} {j w : ℕ} {ids : List ℕ} {many : ℕ} {rest : List ℕ} {left : ℕ} (h : Rowing own j w ids many rest left) where
-  pub rowing_done : (0 < left → length rest < suc w) → false ≡ row_among w many ids own j
+pub rowing_start : {own : List ℕ} {j w : ℕ} {ids : List ℕ} {many : ℕ} {rest : List ℕ} → rest ≡ ids → length ids ≡ many * suc w → Rowing own j w ids many rest
+rowing_start {own} {j} {w} {many = many} e f = record { left = many; on = ap (λ (l : List ℕ). row_among w many l own j) (sym e); filled = ap length e ∙ f }
+
+module _ {own : List ℕ} {j w : ℕ} {ids : List ℕ} {many : ℕ} {rest : List ℕ} (h : Rowing own j w ids many rest) where
+  pub rowing_done : length rest < suc w → false ≡ row_among w many ids own j
   unfolding row_among
   rowing_done short = sym (h.on ∙ ap (λ (n : ℕ). row_among w n rest own j) none)
     where
-      none : left ≡ 0
-      none = elim (dec_lt 0 left) [
-        | yes p ↦ let e : left ≡ suc (left - 1) = omega arith in absurd (omega (arith, short p, h.room, ap (λ (n : ℕ). n * suc w) e, suc-mul (left - 1) (suc w)))
+      none : h.left ≡ 0
+      none = elim (dec_lt 0 h.left) [
+        | yes p ↦
+            let e : h.left ≡ suc (h.left - 1) = omega arith in
+            absurd (omega (arith, short, h.filled, ap (λ (n : ℕ). n * suc w) e, suc-mul (h.left - 1) (suc w)))
         | no q ↦ omega arith
       ]
 
   -- a row more
-  module _ (row rest' : List ℕ) (left' : ℕ) (e : rest ≡ row ++ rest') (l : length row ≡ suc w) (f : left' + 1 ≡ left) where
-    step : row_among w many ids own j ≡ (same_words (take w row) own && eqb (get_or row w 0) j) || row_among w left' rest' own j
+  module _ (row rest' : List ℕ) (e : rest ≡ row ++ rest') (l : length row ≡ suc w) where
+    fewer : h.left ≡ suc (h.left - 1)
+    fewer = elim (dec_lt 0 h.left) [
+      | yes p ↦ omega arith
+      | no q ↦ let z : h.left ≡ 0 = omega arith in absurd (omega (arith, h.filled, ap (λ (n : ℕ). n * suc w) z, ap length e, length-append row rest', l))
+    ]
+
+    step : row_among w many ids own j ≡ (same_words (take w row) own && eqb (get_or row w 0) j) || row_among w (h.left - 1) rest' own j
     unfolding row_among
     step =
-        let g : left ≡ suc left' = omega (arith, f) in
         h.on
-        ∙ (λ i. row_among w (g i) (e i) own j)
-        ∙ (λ i. (same_words (take_front row rest' w (omega (arith, l)) i) own && eqb (get_or-append row rest' 0 w (omega (arith, l)) i) j) || row_among w left' (drop_at row rest' (suc w) l i) own j)
+        ∙ (λ i. row_among w (fewer i) (e i) own j)
+        ∙ (λ i. (same_words (take_front row rest' w (omega (arith, l)) i) own && eqb (get_or-append row rest' 0 w (omega (arith, l)) i) j)
+        || row_among w (h.left - 1) (drop_at row rest' (suc w) l i) own j)
       where
         take_front : (xs ys : List ℕ) (k : ℕ) → k ≤ length xs → take k (xs ++ ys) ≡ take k xs
         take_front [] ys k q = let z : k ≡ 0 = omega (arith, q) in ap (λ (n : ℕ). take n ys) z ∙ sym (take-nil k)
@@ -112,15 +124,15 @@ module _ {own : List ℕ} {j w : ℕ} {ids : List ℕ} {many : ℕ} {rest : List
         take_front (x ∷ xs) ys (suc k) q = ap (λ (l : List ℕ). x ∷ l) (take_front xs ys k (omega arith))
 
     -- it is not that one
-    passed : (same_words (take w row) own && eqb (get_or row w 0) j) ≡ false → Rowing own j w ids many rest' left'
+    passed : (same_words (take w row) own && eqb (get_or row w 0) j) ≡ false → Rowing own j w ids many rest'
     passed d =
-        let g : left ≡ suc left' = omega (arith, f) in
         record {
-          on = step ∙ ap (λ (b : Bool). b || row_among w left' rest' own j) d;
-          room = omega (arith, h.room, ap (λ (n : ℕ). n * suc w) g, suc-mul left' (suc w), ap length e, length-append row rest', l);
+          left = h.left - 1;
+          on = step ∙ ap (λ (b : Bool). b || row_among w (h.left - 1) rest' own j) d;
+          filled = omega (arith, h.filled, ap (λ (n : ℕ). n * suc w) fewer, suc-mul (h.left - 1) (suc w), ap length e, length-append row rest', l);
         }
 
-    pub rowing_other : (get_or row w 0 ≡ j → ⊥) → Rowing own j w ids many rest' left'
+    pub rowing_other : (get_or row w 0 ≡ j → ⊥) → Rowing own j w ids many rest'
     rowing_other q = passed (ap (λ (b : Bool). same_words (take w row) own && b) (ne_eqb (get_or row w 0) j q) ∙ and_no (same_words (take w row) own))
 
     module _ (q : get_or row w 0 ≡ j) {t : Bool} (d : t ≡ pointwise eqb (take w row) own) where
@@ -128,39 +140,28 @@ module _ {own : List ℕ} {j w : ℕ} {ids : List ℕ} {many : ℕ} {rest : List
       is_row =
           ap (λ (b : Bool). same_words (take w row) own && b) (eq-eqb (get_or row w 0) j q) ∙ and_yes (same_words (take w row) own) ∙ sym (d ∙ slices_same (take w row) own)
 
-      pub rowing_unlike : t ≡ false → Rowing own j w ids many rest' left'
+      pub rowing_unlike : t ≡ false → Rowing own j w ids many rest'
       rowing_unlike z = passed (is_row ∙ z)
 
       pub rowing_found : t ≡ true → true ≡ row_among w many ids own j
-      rowing_found z = sym (step ∙ ap (λ (b : Bool). b || row_among w left' rest' own j) (is_row ∙ z))
+      rowing_found z = sym (step ∙ ap (λ (b : Bool). b || row_among w (h.left - 1) rest' own j) (is_row ∙ z))
 
 -- rows of numbers are the hypotheses of those terms
-below_take : {n : ℕ} (a b : ℕ) (xs : List ℕ) → a ≤ b → Below n (take b xs) → Below n (take a xs)
-below_take {n} a b xs l h k m =
-    let p = length-take a xs in
-    let q = length-take b xs in
-    subst (λ (v : ℕ). v < n) (get_or-take b xs k 0 (omega (arith, p)) ∙ sym (get_or-take a xs k 0 (omega (arith, p)))) (h k (omega (arith, p, q)))
-
 module _ {I W : List ℕ} {m : Mark} (g : Good I W m) (w : ℕ) (ps : List ℕ) (j : ℕ) (b : Below m.terms ps) (there : j < m.terms) where
-  pub rows_are : (many : ℕ) (ids : List ℕ) → many * suc w ≤ length ids → Below m.terms (take (many * suc w) ids) →
+  pub rows_are : (many : ℕ) (ids : List ℕ) → length ids ≡ many * suc w → Below m.terms ids →
       any (λ i. same_trees i.premises (args_of (made I W m) ps) && same_tree i.judgment (tree I W m j)) (hyps_in (made I W m) w many ids) ≡ row_among w many ids ps j
   unfolding any hyps_in row_among
   rows_are zero ids r k = refl
-  rows_are (suc many) ids r₀ k₀ =
-      let e : suc many * suc w ≡ suc w + many * suc w = omega (arith, suc-mul many (suc w)) in
-      let r : suc w + many * suc w ≤ length ids = omega (arith, r₀, e) in
-      let k : Below m.terms (take (suc w + many * suc w) ids) = subst (λ (n : ℕ). Below m.terms (take n ids)) e k₀ in
-      let long : length (take (suc w + many * suc w) ids) ≡ suc w + many * suc w = length-take-le (suc w + many * suc w) ids r in
-      let judged : get_or ids w 0 < m.terms =
-      subst (λ (v : ℕ). v < m.terms) (get_or-take (suc w + many * suc w) ids w 0 (omega arith)) (k w (omega (arith, long))) in
-      let firsts : Below m.terms (take w ids) = below_take w (suc w + many * suc w) ids (omega arith) k in
-      let rests : Below m.terms (take (many * suc w) (drop (suc w) ids)) =
+  rows_are (suc many) ids r k =
+      let e : length ids ≡ suc w + many * suc w = omega (arith, r, suc-mul many (suc w)) in
+      let judged : get_or ids w 0 < m.terms = k w (omega (arith, e)) in
+      let firsts : Below m.terms (take w ids) =
       λ i l.
-      let z = length-take-le (many * suc w) (drop (suc w) ids) (omega (arith, length-drop (suc w) ids, r)) in
-      subst (λ (v : ℕ). v < m.terms)
-      (get_or-take (suc w + many * suc w) ids (suc w + i) 0 (omega (arith, z)) ∙ sym (get_or-drop (suc w) ids i 0) ∙ sym (get_or-take (many * suc w) (drop (suc w) ids) i 0 (omega (arith, z))))
-      (k (suc w + i) (omega (arith, long, z))) in
-      let ih = rows_are many (drop (suc w) ids) (omega (arith, length-drop (suc w) ids, r)) rests in
+      let z = length-take-le w ids (omega (arith, e)) in
+      subst (λ (v : ℕ). v < m.terms) (sym (get_or-take w ids i 0 (omega (arith, z)))) (k i (omega (arith, z, e))) in
+      let rests : Below m.terms (drop (suc w) ids) =
+      λ i l. subst (λ (v : ℕ). v < m.terms) (sym (get_or-drop (suc w) ids i 0)) (k (suc w + i) (omega (arith, length-drop (suc w) ids))) in
+      let ih = rows_are many (drop (suc w) ids) (omega (arith, length-drop (suc w) ids, e)) rests in
       (λ i. elim (same_numbers g (take w ids) ps firsts b i && same_number g (get_or ids w 0) j judged there i) [
         | true ↦ true
         | false ↦ ih i

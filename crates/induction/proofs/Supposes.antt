@@ -5,6 +5,7 @@ use mathlib.Core.List.{List, [], ◌∷◌, ◌++◌, append-nil, append_assoc}
 use Prim.Native.Nat.{ℕ, zero, suc, ◌+◌, ◌-◌, ◌*◌, ◌<◌, ◌≤◌}
 use native.Mathlib.Omega.{arith}
 use native.Mathlib.Nat.{suc-mul}
+use Rattle.std.proofs.Math.Nat.{mul-le-mul_right}
 use native.Mathlib.Numerals.{add-one}
 use native.Mathlib.Decide.{dec_lt}
 use lib.ListN.{length, get_or, set, take, drop, length-set, length-drop}
@@ -38,7 +39,7 @@ pub rows_suc : (many w : ℕ) → suc many * suc w ≡ suc w + many * suc w
 rows_suc many w = omega (arith, suc-mul many (suc w))
 
 -- only the cells of the rows count
-hyps_front : (M : Made) (w many : ℕ) (cells : List ℕ) → hyps_in M w many cells ≡ hyps_in M w many (take (many * suc w) cells)
+pub hyps_front : (M : Made) (w many : ℕ) (cells : List ℕ) → hyps_in M w many cells ≡ hyps_in M w many (take (many * suc w) cells)
 unfolding hyps_in
 hyps_front M w zero cells = refl
 hyps_front M w (suc many) cells =
@@ -159,7 +160,8 @@ abbrev pub behind_hyps : List Hyp → List Hyp → Made → Out Made (List Hyp)
 behind_hyps hs ys U = ok (hs ++ ys) U
 
 -- these variables and their sorts are left
-pub record Supposing (I W : List ℕ) (old : Mark) (x sort j : ℕ) (premises own sorts ids₀ J X ids : List ℕ) (now : Mark) (many at : ℕ) (vs ss : List ℕ) : Type 0 where
+pub record Supposing (I W : List ℕ) (old : Mark) (x sort j : ℕ) (premises own sorts ids₀ J X ids : List ℕ) (now : Mark) (at : ℕ) (vs ss : List ℕ) : Type 0 where
+  pub many : ℕ
   pub on : On I W old (hypotheses (motive_in (made I W old) x sort j premises) own sorts (made I W old)) J X now
       (then (hypotheses (motive_in (made I W old) x sort j premises) vs ss (made J X now)) (behind_hyps (hyps_in (made J X now) (length premises) many ids)))
   pub known : Below now.terms (take (many * suc (length premises)) ids)
@@ -171,10 +173,11 @@ pub record Supposing (I W : List ℕ) (old : Mark) (x sort j : ℕ) (premises ow
 
 module _ {I W : List ℕ} {old : Mark} {x j : ℕ} {premises own sorts ids₀ : List ℕ} (sort : ℕ) (g : Motived I W old x j premises)
     (q : Below VARIABLES own × (length sorts ≡ length own) × (length own * suc (length premises) ≤ length ids₀)) where
-  pub supposing_start : {vs ss : List ℕ} → vs ≡ own → ss ≡ sorts → Supposing I W old x sort j premises own sorts ids₀ I W ids₀ old 0 0 vs ss
+  pub supposing_start : {vs ss : List ℕ} → vs ≡ own → ss ≡ sorts → Supposing I W old x sort j premises own sorts ids₀ I W ids₀ old 0 vs ss
   unfolding hyps_in
   supposing_start {vs} {ss} ev es =
       record {
+        many = 0;
         on = on_is (on_start g.good)
             (then_same (hypotheses (motive_in (made I W old) x sort j premises) own sorts (made I W old))
             ∙ (λ i. then (hypotheses (motive_in (made I W old) x sort j premises) (sym ev i) (sym es i) (made I W old)) (behind_hyps [])));
@@ -186,16 +189,21 @@ module _ {I W : List ℕ} {old : Mark} {x j : ℕ} {premises own sorts ids₀ : 
         long = refl;
       }
 
-  module _ {J X ids : List ℕ} {now : Mark} {many at : ℕ} {vs ss : List ℕ} (h : Supposing I W old x sort j premises own sorts ids₀ J X ids now many at vs ss) where
+  module _ {J X ids : List ℕ} {now : Mark} {at : ℕ} {vs ss : List ℕ} (h : Supposing I W old x sort j premises own sorts ids₀ J X ids now at vs ss) where
+    abbrev many : ℕ
+    many = h.many
+
     -- no variable is left
-    pub supposing_done : length vs ≡ 0 → HypsMade I W J X old (hypotheses (motive_in (made I W old) x sort j premises) own sorts (made I W old)) (length premises) (length own) ids many now
+    pub supposing_done : length vs ≡ 0 → HypsMade I W J X old (hypotheses (motive_in (made I W old) x sort j premises) own sorts (made I W old)) (length premises) (length own) ids at now
     unfolding hypotheses then
     supposing_done l =
         record {
+          many = many;
           went = on_done (on_is h.on
               (ap (λ (us : List ℕ). then (hypotheses (motive_in (made I W old) x sort j premises) us ss (made J X now)) (behind_hyps (hyps_in (made J X now) (length premises) many ids))) (none_long vs l)
               ∙ ap (λ (hs : List Hyp). ok hs (made J X now)) (append-nil (hyps_in (made J X now) (length premises) many ids))));
-          known = h.known;
+          place = h.place;
+          known = subst (λ (n : ℕ). Below now.terms (take n ids)) (sym h.place) h.known;
           few = omega (arith, h.few);
         }
       where
@@ -216,9 +224,10 @@ module _ {I W : List ℕ} {old : Mark} {x j : ℕ} {premises own sorts ids₀ : 
       small_left : Below VARIABLES (v ∷ vs')
       small_left = subst (Below VARIABLES) ev h.small
 
-      pub supposing_skip : (s ≡ sort → ⊥) → Supposing I W old x sort j premises own sorts ids₀ J X ids now many at vs' ss'
+      pub supposing_skip : (s ≡ sort → ⊥) → Supposing I W old x sort j premises own sorts ids₀ J X ids now at vs' ss'
       supposing_skip z =
           record {
+            many = many;
             on = on_is left
                 (ap (λ (o : Out Made (List Hyp)). then o (behind_hyps (hyps_in (made J X now) (length premises) many ids)))
                 (skip_hyps (motive_in (made I W old) x sort j premises) v vs' s ss' (made J X now) z));
@@ -231,12 +240,7 @@ module _ {I W : List ℕ} {old : Mark} {x j : ℕ} {premises own sorts ids₀ : 
           }
 
       roomy : suc many * suc (length premises) ≤ length own * suc (length premises)
-      roomy = mul_mono (suc many) (length own) (suc (length premises)) (omega (arith, h.few, ap length ev))
-        where
-          mul_mono : (a b c : ℕ) → a ≤ b → a * c ≤ b * c
-          mul_mono zero b c p = omega arith
-          mul_mono (suc a) zero c p = absurd (omega arith)
-          mul_mono (suc a) (suc b) c p = let z = mul_mono a b c (omega arith) in omega (arith, z, suc-mul a c, suc-mul b c)
+      roomy = mul-le-mul_right (suc (length premises)) (let z : suc many ≤ length own = omega (arith, h.few, ap length ev) in z)
 
       pub supposing_room : at + length premises < length ids
       supposing_room = omega (arith, roomy, rows_suc many (length premises), q.2, h.place, h.long)
@@ -294,10 +298,11 @@ module _ {I W : List ℕ} {old : Mark} {x j : ℕ} {premises own sorts ids₀ : 
               (subst (Below new.terms) (sym (written_row ids last at w t supposing_room longs)) moved.known)
               (subst (λ (v : ℕ). v < new.terms) (sym (written_last ids last at w t supposing_room longs)) moved.there))
 
-          pub supposing_again : Supposing I W old x sort j premises own sorts ids₀ Y Z (written ids last at (length premises) t supposing_room longs) new (many + 1)
+          pub supposing_again : Supposing I W old x sort j premises own sorts ids₀ Y Z (written ids last at (length premises) t supposing_room longs) new
               (at + length premises + 1) vs' ss'
           supposing_again =
               record {
+                many = many + 1;
                 on = on_is (on_ok _ (split is) moved.went)
                     (ap (λ (f : List Hyp → Made → Out Made (List Hyp)). then (hypotheses (motive_in (made I W old) x sort j premises) vs' ss' (made Y Z new)) f)
                     (λ i ys B. ok ((sym (append_assoc (hyps_in (made J X now) (length premises) many ids) (hyp_in (made Y Z new) t last ∷ []) ys)

@@ -158,14 +158,16 @@ unfoldable pub row_among : ℕ → ℕ → List ℕ → List ℕ → ℕ → Boo
 row_among k zero cells ps j = false
 row_among k (suc n) cells ps j = (same_words (take k cells) ps && eqb (get_or cells k 0) j) || row_among k n (drop (suc k) cells) ps j
 
--- K answers so many
-pub record HypsMade (I W J X : List ℕ) (old : Mark) (K : Out Made (List Hyp)) (k most : ℕ) (ids : List ℕ) (many : ℕ) (new : Mark) : Type 0 where
+-- K answers those in the cells before end
+pub record HypsMade (I W J X : List ℕ) (old : Mark) (K : Out Made (List Hyp)) (k most : ℕ) (ids : List ℕ) (end : ℕ) (new : Mark) : Type 0 where
+  pub many : ℕ
   pub went : Went I W J X old K (hyps_in (made J X new) k many ids) new
-  pub known : Below new.terms (take (many * suc k) ids)
+  pub place : end ≡ many * suc k
+  pub known : Below new.terms (take end ids)
   pub few : many ≤ most
 
 abbrev pub HypsMadeBy : List ℕ → List ℕ → List ℕ → List ℕ → Mark → Mark → Out Made (List Hyp) → ℕ → ℕ → List ℕ → Result ℕ Row → Type 0
-HypsMadeBy I W J X old new K k most ids (Ok many) = HypsMade I W J X old K k most ids many new
+HypsMadeBy I W J X old new K k most ids (Ok end) = HypsMade I W J X old K k most ids end new
 HypsMadeBy I W J X old new K k most ids (Err row) = Stopped I W J X old K 60 (row_number row) new
 
 abbrev pub HypsMadeAs : Store → Store → Out Made (List Hyp) → ℕ → ℕ → List ℕ → Result ℕ Row → Type 0
@@ -177,9 +179,9 @@ HypsMadeAs s t K k most ids r = HypsMadeBy s.index.now s.words.now t.index.now t
 unfoldable pub plain_at : Motive → Trees → List Hyp → Tree → Bool
 plain_at M ps ihs t = among ps t || (is_none M.premises && any (λ i. same_tree i.judgment t) ihs)
 
--- the facts, the motive M with the set of its variables, its premises ps at the constructor, the induction hypotheses in the cells, and the set of
--- the terms that a plain hypothesis may be
-pub record Resting (facts lists : List ℕ) (n : Sizes) (plain used : List ℕ) (x k : ℕ) (ids : List ℕ) (many : ℕ) : Type 0 where
+-- the facts, the motive M with the set of its variables, its premises ps at the constructor, the induction hypotheses, which fill the cells, and the
+-- set of the terms that a plain hypothesis may be
+pub record Resting (facts lists : List ℕ) (n : Sizes) (plain used : List ℕ) (x k : ℕ) (ids : List ℕ) : Type 0 where
   pub S : State
   pub footings : List ℕ
   pub I : List ℕ
@@ -187,6 +189,7 @@ pub record Resting (facts lists : List ℕ) (n : Sizes) (plain used : List ℕ) 
   pub m : Mark
   pub M : Motive
   pub ps : Trees
+  pub many : ℕ
   pub recorded : Recorded (records facts footings lists) n (made I W m) S
   pub good : Good I W m
   pub variable_is : M.variable ≡ x
@@ -195,14 +198,14 @@ pub record Resting (facts lists : List ℕ) (n : Sizes) (plain used : List ℕ) 
   pub plain_are : (t : ℕ) → t < m.terms → holds plain t ≡ plain_at M ps (hyps_in (made I W m) k many ids) (tree I W m t)
   pub long : length plain ≡ TERMWORDS
   pub narrow : k ≤ FACTS
-  pub room : many * suc k ≤ length ids
-  pub known : Below m.terms (take (many * suc k) ids)
+  pub filled : length ids ≡ many * suc k
+  pub known : Below m.terms ids
 
 abbrev pub RestingIn : Facts → Allowed → Type 0
-RestingIn f a = Resting f.rows.now f.lists.now f.n a.plain.now a.used.now a.x a.rows.width a.rows.cells.now a.rows.many
+RestingIn f a = Resting f.rows.now f.lists.now f.n a.plain.now a.used.now a.x a.rows.width a.rows.cells.now
 
 -- the same before the judgments of the induction hypotheses are in the set; the case's judgment is there
-pub record BeforeRest (facts lists : List ℕ) (n : Sizes) (plain used : List ℕ) (x k : ℕ) (ids : List ℕ) (many j : ℕ) : Type 0 where
+pub record BeforeRest (facts lists : List ℕ) (n : Sizes) (plain used : List ℕ) (x k : ℕ) (ids : List ℕ) (j : ℕ) : Type 0 where
   pub S : State
   pub footings : List ℕ
   pub I : List ℕ
@@ -210,6 +213,7 @@ pub record BeforeRest (facts lists : List ℕ) (n : Sizes) (plain used : List �
   pub m : Mark
   pub M : Motive
   pub ps : Trees
+  pub many : ℕ
   pub recorded : Recorded (records facts footings lists) n (made I W m) S
   pub good : Good I W m
   pub variable_is : M.variable ≡ x
@@ -219,12 +223,12 @@ pub record BeforeRest (facts lists : List ℕ) (n : Sizes) (plain used : List �
   pub plain_are : (t : ℕ) → t < m.terms → holds plain t ≡ among ps (tree I W m t)
   pub long : length plain ≡ TERMWORDS
   pub narrow : k ≤ FACTS
-  pub room : many * suc k ≤ length ids
-  pub known : Below m.terms (take (many * suc k) ids)
+  pub filled : length ids ≡ many * suc k
+  pub known : Below m.terms ids
   pub there : j < m.terms
 
 abbrev pub RestsIn : Facts → List ℕ → List ℕ → ℕ → Rows → ℕ → Type 0
-RestsIn f plain used x a j = BeforeRest f.rows.now f.lists.now f.n plain used x a.width a.cells.now a.many j
+RestsIn f plain used x a j = BeforeRest f.rows.now f.lists.now f.n plain used x a.width a.cells.now j
 
 -- fact i concludes the case, and rests on what it may
 unfoldable pub case_fact : State → Motive → Trees → List Hyp → ℕ → Tree → Act Made (Unit {0})

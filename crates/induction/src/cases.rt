@@ -129,7 +129,7 @@ impl Motive<'_> {
         self.premises_first(store, &self.putting(t), memo, out)
     }
 
-    // One for each variable of the motive's own sort, one behind the other in `ids`: the premises, then the judgment. What is answered is how many.
+    // One for each variable of the motive's own sort, one behind the other in `ids`: the premises, then the judgment. What is answered is where they end.
     pub fn hypotheses(
         &self,
         store: &mut Store<'_>,
@@ -145,7 +145,6 @@ impl Motive<'_> {
             HypsMadeAs store.old store.new (hypotheses (motive_of M self.now) own.now sorts.now M) (length self.now.premises.now) (length own.now) ids.new result }
         ensures memo_unchanged { memo.new ≡ memo.old }
     {
-        let mut many = 0;
         let mut at = 0;
         for (v, sort) in own.iter().zip(sorts) {
             if *sort as usize != self.sort {
@@ -154,9 +153,8 @@ impl Motive<'_> {
             let end = at + self.premises.len();
             let t = self.hypothesis_at(store, *v as usize, memo, &mut ids[at..end])?;
             ids[end] = t as u32;
-            many += 1;
             at = end + 1;
         }
-        Ok(many)
+        Ok(at)
     }
 }

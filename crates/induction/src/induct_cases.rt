@@ -1,5 +1,5 @@
 // The cases of `induct`, each with a constructor of the sort, in order: the variables that a case names, its terms, and the questions of its fact.
-ghost use Rattle.std.specs.Prelude.{◌≡◌, [], ◌<◌, length, take, replicate};
+ghost use Rattle.std.specs.Prelude.{◌≡◌, [], ◌<◌, length, replicate};
 ghost use Rattle.rules.specs.Limits.{TERMS};
 ghost use Rattle.rules.specs.Theory.{constructors};
 ghost use Rattle.rules.specs.Induct.{Motive as Proved, motive_vars, case_vars, induct_cases};
@@ -113,10 +113,10 @@ fn case_rests(
 ) -> Result<(), Question>
     requires { RestsIn facts.now plain.old used.now x rows.now judgment }
     ensures { (g : RestsIn facts.now plain.old used.now x rows.now judgment) →
-        case_fact g.S g.M g.ps (hyps_in (made g.I g.W g.m) rows.now.width rows.now.many rows.now.cells.now) i (tree g.I g.W g.m judgment) (made g.I g.W g.m) ≡ asked result (made g.I g.W g.m) }
+        case_fact g.S g.M g.ps (hyps_in (made g.I g.W g.m) rows.now.width g.many rows.now.cells.now) i (tree g.I g.W g.m judgment) (made g.I g.W g.m) ≡ asked result (made g.I g.W g.m) }
 {
     if rows.width == 0 {
-        insert_all(&rows.cells[..rows.many], plain);
+        insert_all(rows.cells, plain);
     }
     let allowed = Allowed {
         plain,
@@ -151,11 +151,10 @@ fn case_terms(
     let width = motive.premises.len();
     let judgment = motive.at_constructor(store, case.constructor, own, memo, &mut ids[..width])?;
     insert_all(&ids[..width], &mut plain);
-    let many = motive.hypotheses(store, own, case.sorts, memo, ids)?;
+    let end = motive.hypotheses(store, own, case.sorts, memo, ids)?;
     let rows = Rows {
-        cells: ids,
+        cells: &ids[..end],
         width,
-        many,
     };
     case_rests(
         facts, case.fact, judgment, &mut plain, used, motive.x, &rows,

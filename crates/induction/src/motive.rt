@@ -9,10 +9,9 @@ pub struct Motive<'a> {
     pub premises: &'a [u32],
 }
 
-// The induction hypotheses of a case, `many` rows of `width` premises and a judgment behind them, by their numbers.
+// The induction hypotheses of a case, rows of `width` premises and a judgment behind them, by their numbers.
 #[derive(Clone, Copy)]
 pub struct Rows<'a> {
     pub cells: &'a [u32],
     pub width: usize,
-    pub many: usize,
 }

@@ -1,10 +1,9 @@
 // What a case of `induct` may rest on: plain hypotheses by a set of terms, rule hypotheses by the numbers of the induction hypotheses.
-ghost use Rattle.std.specs.Prelude.{◌≡◌, ◌&&◌, not, suc, ◌*◌, ◌<◌, ◌≤◌, eqb, length};
+ghost use Rattle.std.specs.Prelude.{◌≡◌, ◌&&◌, ℕ, not, suc, ◌*◌, ◌<◌, ◌≤◌, eqb, length};
 ghost use Rattle.rules.specs.Limits.{FACTS};
 ghost use Rattle.rules.specs.Find.{all, entry};
 ghost use Rattle.rules.specs.Induct.{allowed_rule, allowed_hyp};
 ghost use Rattle.terms.specs.Table.{made, tree};
-ghost use Rattle.terms.specs.Node.{same_words};
 ghost use Rattle.terms.specs.Sets.{holds};
 ghost use Rattle.referring.specs.Recall.{fact_of};
 ghost use Rattle.referring.specs.Substitutes.{Below};
@@ -29,10 +28,10 @@ pub struct Allowed<'a> {
 impl Rows<'_> {
     // Whether some row has these premises and this judgment.
     fn has(&self, own: &[u32], judgment: usize) -> bool
-        requires { (self.now.many * suc self.now.width ≤ length self.now.cells.now) × (self.now.width ≤ FACTS) }
-        ensures { result ≡ row_among self.now.width self.now.many self.now.cells.now own.now judgment }
+        requires { self.now.width ≤ FACTS }
+        ensures { (many : ℕ) → length self.now.cells.now ≡ many * suc self.now.width → result ≡ row_among self.now.width many self.now.cells.now own.now judgment }
     {
-        for row in self.cells.chunks_exact(self.width + 1).take(self.many) {
+        for row in self.cells.chunks_exact(self.width + 1) {
             if row[self.width] as usize == judgment && &row[..self.width] == own {
                 return true;
             }
@@ -60,7 +59,7 @@ impl Allowed<'_> {
     fn rule(&self, facts: &Facts<'_>, h: usize) -> bool
         requires { RestingIn facts.now self.now × (h < facts.now.n.facts) }
         ensures { (g : RestingIn facts.now self.now) →
-            result ≡ allowed_rule g.M (hyps_in (made g.I g.W g.m) self.now.rows.width self.now.rows.many self.now.rows.cells.now) (fact_of g.S h) }
+            result ≡ allowed_rule g.M (hyps_in (made g.I g.W g.m) self.now.rows.width g.many self.now.rows.cells.now) (fact_of g.S h) }
     {
         if !is_assumed(facts.rows, h) {
             return false;
@@ -75,7 +74,7 @@ impl Allowed<'_> {
     fn hyp(&self, facts: &Facts<'_>, h: usize) -> bool
         requires { RestingIn facts.now self.now × (h < facts.now.n.facts) }
         ensures { (g : RestingIn facts.now self.now) →
-            result ≡ allowed_hyp g.M g.ps (hyps_in (made g.I g.W g.m) self.now.rows.width self.now.rows.many self.now.rows.cells.now) (entry g.S.facts h) }
+            result ≡ allowed_hyp g.M g.ps (hyps_in (made g.I g.W g.m) self.now.rows.width g.many self.now.rows.cells.now) (entry g.S.facts h) }
     {
         if is_plain(facts.rows, h) {
             return has(self.plain, judgment(facts.rows, h));
@@ -87,7 +86,7 @@ impl Allowed<'_> {
     fn hyps(&self, facts: &Facts<'_>, i: usize) -> bool
         requires { RestingIn facts.now self.now × (i < facts.now.n.facts) }
         ensures { (g : RestingIn facts.now self.now) →
-            result ≡ all (λ h. allowed_hyp g.M g.ps (hyps_in (made g.I g.W g.m) self.now.rows.width self.now.rows.many self.now.rows.cells.now) (entry g.S.facts h)) (fact_of g.S i).hyps }
+            result ≡ all (λ h. allowed_hyp g.M g.ps (hyps_in (made g.I g.W g.m) self.now.rows.width g.many self.now.rows.cells.now) (entry g.S.facts h)) (fact_of g.S i).hyps }
     {
         for h in facts.hyps(i) {
             if !self.hyp(facts, *h as usize) {
@@ -101,7 +100,7 @@ impl Allowed<'_> {
     pub fn case_fact(&self, facts: &Facts<'_>, i: usize, t: usize) -> Result<(), Question>
         requires { RestingIn facts.now self.now }
         ensures { (g : RestingIn facts.now self.now) → t < g.m.terms →
-            case_fact g.S g.M g.ps (hyps_in (made g.I g.W g.m) self.now.rows.width self.now.rows.many self.now.rows.cells.now) i (tree g.I g.W g.m t) (made g.I g.W g.m) ≡ asked result (made g.I g.W g.m) }
+            case_fact g.S g.M g.ps (hyps_in (made g.I g.W g.m) self.now.rows.width g.many self.now.rows.cells.now) i (tree g.I g.W g.m t) (made g.I g.W g.m) ≡ asked result (made g.I g.W g.m) }
     {
         if !is_fact(facts.n, i) {
             return Err(Question::Earlier);

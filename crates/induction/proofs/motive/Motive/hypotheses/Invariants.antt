@@ -10,5 +10,5 @@ invariant-loop-v l =
     record {
       tables : SameTables s t;
       memo_same : l.memo ≡ l.initial.memo;
-      supposing : Supposing s.index.now s.words.now s.mark l.self.x l.self.sort l.self.judgment l.self.premises.now l.own l.sorts l.initial.ids t.index.now t.words.now l.ids t.mark l.many l.at l.v-iterator.a.rest.now l.v-iterator.b.rest.now;
+      supposing : Supposing s.index.now s.words.now s.mark l.self.x l.self.sort l.self.judgment l.self.premises.now l.own l.sorts l.initial.ids t.index.now t.words.now l.ids t.mark l.at l.v-iterator.a.rest.now l.v-iterator.b.rest.now;
     }

@@ -29,4 +29,4 @@ judgment-requires c = rest_facts c.requires.0 c.requires.1
 pub returns : goal.returns
 returns c = λ g. rule_rows g _ c.requires.1 c.is_assumed.result c.is_assumed.ensures (not-false _ (ap not c.if-not-is_assumed.false)) c.general.ensures
     c.generalises.result c.generalises.ensures (not-false _ (ap not c.if-not-generalises.false)) c.premises.ensures c.judgment.result c.judgment.ensures
-    c.has.result c.has.ensures
+    c.has.result (c.has.ensures g.many g.filled)
