@@ -1,6 +1,6 @@
 // `(apply N M (BINDING...) (REF...))`: fact M as a rule. An assumed M binds its generalised variables and has its premises; of another M the
 // hypotheses, all plain, are the premises, by rising index.
-ghost use Rattle.std.specs.Prelude.{◌≡◌, ℕ, ◌<◌, length, get_or, replicate};
+ghost use Rattle.std.specs.Prelude.{◌≡◌, ◌<◌, length, get_or, replicate};
 ghost use Rattle.rules.specs.Limits.{VARIABLES, TERMS, VARIABLEWORDS, FACTWORDS};
 ghost use Rattle.rules.specs.Find.{all, union, has as has_number};
 ghost use Rattle.rules.specs.Store.{Made};

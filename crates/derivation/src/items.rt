@@ -1,5 +1,5 @@
 // The items of a step: bindings of the rule's variables, and at most one judgment, the conclusion as stated.
-ghost use Rattle.std.specs.Prelude.{◌≡◌, ◌&&◌, List, ℕ, ◌<◌, None, eqb, length, drop, replicate};
+ghost use Rattle.std.specs.Prelude.{◌≡◌, ◌&&◌, ◌<◌, eqb, length, drop};
 ghost use Rattle.rules.specs.Limits.{RULEVARS};
 ghost use Rattle.rules.specs.Lex.{letters};
 ghost use Rattle.rules.specs.Sexp.{Sexps, count, marked};

@@ -1,5 +1,5 @@
 // `(step N RULE (REF...) ITEM...)`: an instance of a rule, from earlier facts.
-ghost use Rattle.std.specs.Prelude.{◌≡◌, List, [], ◌∷◌, ℕ, ◌<◌, length, replicate};
+ghost use Rattle.std.specs.Prelude.{◌≡◌, ℕ, ◌<◌, length, replicate};
 ghost use Rattle.rules.specs.Limits.{TERMS, PATTERNS};
 ghost use Rattle.rules.specs.Find.{rising};
 ghost use Rattle.rules.specs.Sexp.{count, rest};
@@ -10,7 +10,7 @@ ghost use Rattle.rules.specs.Step.{references, step, match_stated};
 ghost use Rattle.terms.specs.Table.{args_of};
 ghost use Rattle.terms.specs.Lent.{SameTables, made_of, terms_made};
 ghost use Rattle.terms.specs.Sets.{holds};
-ghost use Rattle.terms.specs.Patterns.{tree_in, bound_of, Stands, AllMatched};
+ghost use Rattle.terms.specs.Patterns.{bound_of, Stands, AllMatched};
 ghost use Rattle.reading.specs.Answers.{ReadAs};
 ghost use Rattle.referring.specs.Sources.{ReadsForm, ReadsRuleForm};
 ghost use Rattle.referring.specs.Derived.{FewItems, DerivedAs, with_instances};
