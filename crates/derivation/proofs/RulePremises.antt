@@ -168,7 +168,8 @@ premise_first ps = refl
 
 -- What its use rests on --------------------------------------------------------------------------------------------------------------
 
-has_one : (i : ℕ) (a : Set) → plus i a ≡ union (has (i ∷ [])) a
+-- one member more, in front
+pub has_one : (i : ℕ) (a : Set) → plus i a ≡ union (has (i ∷ [])) a
 unfolding has
 has_one i a =
     sym (union_comm (has (i ∷ [])) a ∙ ap (union a) (plus_has i []) ∙ plus_union i a (has []) ∙ ap (plus i) (union_empty a))

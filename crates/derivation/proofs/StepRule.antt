@@ -47,17 +47,7 @@ use Rattle.referring.specs.Recall.{Refers}
 use Rattle.referring.specs.Derived.{RuleForm, FactForm, FewItems, RefsRead, DerivedRead, DerivedBy, derived_fact, with_instances}
 use Rattle.derivation.specs.Stepping.{Scopes, ScopedBy, PremisesOf, in_scope, by_rule}
 use Rattle.referring.specs.Laws.Refers.{refers_went}
-
--- one member more, in front
-plus_is : (r : ℕ) (a : Set) → plus r a ≡ union (has (r ∷ [])) a
-unfolding has
-plus_is r a = λ i v. go (a v) (eqb v r) i
-  where
-    go : (b c : Bool) → b || c ≡ elim c [ true ↦ true | false ↦ false ] || b
-    go true true = refl
-    go true false = refl
-    go false true = refl
-    go false false = refl
+use Rattle.derivation.proofs.RulePremises.{has_one}
 
 -- cells for the premises, as many as there are
 pub premises_cells : {rules : List ℕ} {r k : ℕ} → PremisesOf rules r k → {room : ℕ} → k ≡ room → PremisesOf rules r room
@@ -226,7 +216,7 @@ module _ {K : Names} {rules rulevars patterns facts footings lists : List ℕ} {
             -- the rule has joined the footing
             module _ (footing' : List ℕ) (w : holds footing' ≡ plus r (holds footing)) where
               footed : union (has (r ∷ [])) refs.refs.footing ≡ holds footing'
-              footed = sym (w ∙ ap (plus r) refs.uses ∙ plus_is r refs.refs.footing)
+              footed = sym (w ∙ ap (plus r) refs.uses ∙ has_one r refs.refs.footing)
 
               known_all : Under (length g.S.theory.rules) (holds footing')
               known_all v t =

@@ -15,6 +15,7 @@ use Rattle.questions.specs.Numbers.{number_of, detail_of}
 use Rattle.questions.specs.declared.Question.{Question}
 use Rattle.sexp.specs.Items.{Holds}
 use Rattle.kernel.specs.HeldRules.{RulesHeld}
+use Rattle.terms.specs.declared.patterns.Patterns.{Patterns}
 use Rattle.terms.specs.declared.store.Mark.{Mark}
 use Rattle.terms.specs.declared.store.Terms.{Terms}
 use Rattle.terms.specs.declared.store.Store.{Store}
@@ -134,11 +135,11 @@ PremisesOf rules r k =
 
 -- As they are lent -------------------------------------------------------------------------------------------------------------------
 
-abbrev pub StatedIn : List ℕ → List ℕ → Terms → List ℕ → ℕ → Option ℕ → Type 0
-StatedIn S P t B place stated = StatedMatchable S P t.index.now t.words.now t.mark B place (counted_from_1 stated)
+abbrev pub StatedIn : Patterns → Terms → List ℕ → ℕ → Option ℕ → Type 0
+StatedIn p t B place stated = StatedMatchable p.symbols.now p.words.now t.index.now t.words.now t.mark B place (counted_from_1 stated)
 
-abbrev pub ConcludableIn : List ℕ → List ℕ → Store → Said → ℕ → ℕ → List ℕ → Type 0
-ConcludableIn S P s said first place ids = Concludable S P s.index.now s.words.now s.mark said.bound first place ids (counted_from_1 said.stated)
+abbrev pub ConcludableIn : Patterns → Store → Said → ℕ → ℕ → List ℕ → Type 0
+ConcludableIn p s said first place ids = Concludable p.symbols.now p.words.now s.index.now s.words.now s.mark said.bound first place ids (counted_from_1 said.stated)
 
 abbrev pub ReadsConclusion : Reader → OneRule → Store → List ℕ → List ℕ → Type 0
 ReadsConclusion r u s cells ids = Concludes (names_of r) (tables_of r u) r.n s.index.now s.words.now s.mark u.number cells ids

@@ -21,7 +21,7 @@ use reading::names::index as index_in;
 use referring::references::{Referred, insert_all};
 use referring::scope::visit_cells;
 use referring::source::{Facts, Source};
-use referring::support::{Derived, Support, no_support};
+use referring::support::{Derived, Support};
 use rules::{TERMWORDS, VARIABLES, VARIABLEWORDS};
 use sexp::items;
 use sexp::items::Item;
@@ -159,11 +159,11 @@ impl Rule<'_> {
     {
         let facts = source.facts();
         let mut seen = [0u64; TERMWORDS];
-        let mut support = no_support();
+        let mut support = Support::NONE;
         for (k, item) in items::all(cells).enumerate() {
             let p = premise(&facts, self.fact, k);
             let referred = self.met(source, store, p, item, memo)?;
-            support.join(&facts, referred.fact, referred.bare);
+            support.join(&facts, &referred);
             visit(&store.terms(), referred.judgment, &mut seen, used);
         }
         Ok(support)

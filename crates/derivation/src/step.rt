@@ -19,16 +19,16 @@ ghost use Rattle.derivation.specs.Stepping.{StatedIn, ConcludableIn, ReadsConclu
 
 use crate::items::{OneRule, Said, read_items};
 use cells::clear;
-use kernel::rule_readers::{Rules, conclusion, premises, rule_named, words as rule_words};
+use kernel::rule_readers::{Rules, premises, rule_named, words as rule_words};
 use questions::Question;
 use reading::reader::Reader;
 use referring::scope::{visit_all, visit_cells};
 use referring::source::Source;
-use referring::support::{Derived, Support, no_support};
+use referring::support::{Derived, Support};
 use rules::{TERMWORDS, VARIABLEWORDS};
 use sexp::items::Item;
 use sexp::{items, lex};
-use terms::patterns::{build, match_all, matches};
+use terms::patterns::Patterns;
 use terms::sets::insert;
 use terms::store::{Store, Terms};
 
@@ -63,12 +63,12 @@ fn references(
     ensures memo_unchanged { memo.new ≡ memo.old }
 {
     let facts = source.facts();
-    let mut support = no_support();
+    let mut support = Support::NONE;
     let mut instances = 0;
     for (k, item) in items::all(cells).enumerate() {
         let referred = source.reference(store, item, memo)?;
         ids[k] = referred.judgment as u32;
-        support.join(&facts, referred.fact, referred.bare);
+        support.join(&facts, &referred);
         instances += usize::from(!referred.bare);
     }
     Ok(Brought { instances, support })
@@ -76,21 +76,20 @@ fn references(
 
 // Whether what is stated, if something is, matches the pattern at a place.
 fn match_stated(
-    symbols: &[u32],
-    patterns: &[u32],
+    patterns: &Patterns<'_>,
     terms: &Terms<'_>,
     bound: &mut [u32],
     place: usize,
     stated: Option<usize>,
 ) -> bool
-    requires { StatedIn symbols.now patterns.now terms.now bound.old place stated }
-    ensures { (p : Tree) → Stands symbols.now patterns.now place p → let M = terms_made terms.now in
+    requires { StatedIn patterns.now terms.now bound.old place stated }
+    ensures { (p : Tree) → Stands patterns.now.symbols.now patterns.now.words.now place p → let M = terms_made terms.now in
         AllMatched M bound.old bound.new (match_stated p (stated_in M stated) (bound_of M bound.old)) result }
 {
     let Some(id) = stated else {
         return true;
     };
-    matches(symbols, patterns, terms, bound, place, id).is_some()
+    patterns.matches(terms, bound, place, id).is_some()
 }
 
 impl Said {
@@ -98,29 +97,28 @@ impl Said {
     // built.
     fn matched(
         self,
-        symbols: &[u32],
-        patterns: &[u32],
+        patterns: &Patterns<'_>,
         store: &mut Store<'_>,
         first: usize,
         place: usize,
         ids: &[u32],
     ) -> Result<usize, Question>
-        requires { ConcludableIn symbols.now patterns.now store.old self first place ids.now }
+        requires { ConcludableIn patterns.now store.old self first place ids.now }
         ensures same_tables { SameTables store.old store.new }
-        ensures read_as { (g : ConcludableIn symbols.now patterns.now store.old self first place ids.now) → let M = made_of store.old in
+        ensures read_as { (g : ConcludableIn patterns.now store.old self first place ids.now) → let M = made_of store.old in
             ReadAs store.old store.new (concluded g.rule (args_of M ids.now) (stated_in M self.stated) (bound_of M self.bound) M) result }
     {
         let mut bound = self.bound;
         let terms = store.terms();
-        if !match_stated(symbols, patterns, &terms, &mut bound, place, self.stated) {
+        if !match_stated(patterns, &terms, &mut bound, place, self.stated) {
             return Err(Question::Matching);
         }
-        if !match_all(symbols, patterns, &terms, &mut bound, first, ids) {
+        if !patterns.match_all(&terms, &mut bound, first, ids) {
             return Err(Question::Matching);
         }
         match self.stated {
             Some(id) => Ok(id),
-            None => Ok(build(symbols, patterns, store, &bound, place)?.term),
+            None => Ok(patterns.build(store, &bound, place)?.term),
         }
     }
 }
@@ -146,9 +144,13 @@ fn conclude(
     visit_all(&terms, ids, &mut seen, &mut used);
     visit_cells(&terms, &said.bound, &mut seen, &mut used);
     let OneRule { rules, number } = *rule;
-    let place = conclusion(rules.patterns, rules.rows, reader.symbols, number);
+    let place = rules.conclusion(reader.symbols, number);
     let first = rule_words(rules.rows, number).from;
-    let judgment = said.matched(reader.symbols, rules.patterns, store, first, place, ids)?;
+    let patterns = Patterns {
+        symbols: reader.symbols,
+        words: rules.patterns,
+    };
+    let judgment = said.matched(&patterns, store, first, place, ids)?;
     Ok(Concluded { judgment, used })
 }
 

@@ -1,7 +1,8 @@
 -- What a case may rest on: one hypothesis, all hypotheses of a fact, and the questions of the case's fact. Assumes nothing.
 use mathlib.Core.Path.{◌≡◌, refl, sym, ap, ◌∙◌, subst}
 use mathlib.Core.Bool.{Bool, true, false, ◌&&◌, not}
-use Rattle.std.specs.Prelude.{Option, None as nothing}
+use Rattle.std.specs.Prelude.{◌≢◌, ◌⊎◌, Option, None as nothing}
+use mathlib.Core.Logic.{inl, inr}
 use mathlib.Core.List.{List, [], ◌∷◌}
 use Prim.Native.Nat.{ℕ, zero, suc, ◌+◌, ◌*◌, ◌<◌, ◌≤◌}
 use native.Mathlib.Omega.{arith}
@@ -30,7 +31,11 @@ use Rattle.state.specs.Held.{records}
 use Rattle.state.specs.Rows.{cell, hyps_span, premises_span, general_span, plain_row}
 use Rattle.state.specs.RowTables.{tabled_long}
 use Rattle.state.specs.FactLaws.{FactRow, fact_row_lem, facts_tabled}
+use Rattle.questions.specs.declared.Question.{Question}
+use Rattle.questions.specs.declared.Question.TheVariants.{Earlier, CaseJudgment}
+use Rattle.questions.specs.Numbers.{number_of, detail_of}
 use Rattle.referring.specs.Recall.{fact_of, RecallsFact}
+use Rattle.referring.specs.Laws.Refers.{fact_found, fact_none, fact_asks}
 use Rattle.referring.specs.Substitutes.{Below}
 use Rattle.induction.specs.Inducing.{hyps_in, row_among, plain_at, Resting, case_fact}
 use Rattle.induction.proofs.Rests.{other, rows_are}
@@ -44,8 +49,12 @@ module _ {facts lists : List ℕ} {n : Sizes} {plain used : List ℕ} {x w : ℕ
   abbrev ihs : List Hyp
   ihs = hyps_in M w g.many ids
 
+  -- what a reader of any fact asks
+  pub facts_asks : (length facts ≡ 6 * FACTS) × (n.facts ≤ FACTS)
+  facts_asks = (tabled_long (facts_tabled g.recorded), (facts_tabled g.recorded).few)
+
   pub rest_facts : {h : ℕ} → h < n.facts → (length facts ≡ 6 * FACTS) × (h < FACTS)
-  rest_facts l = (tabled_long (facts_tabled g.recorded), omega (arith, g.recorded.many, g.recorded.rows.row12, l))
+  rest_facts l = fact_asks g.recorded l
 
   module _ (h : ℕ) (l : h < n.facts) where
     pub row : FactRow (records facts g.footings lists) n M g.S h (fact_of g.S h)
@@ -180,12 +189,6 @@ allows_start {n = n} {i} e g l = subst (λ (cells : List ℕ). Allowing (asked g
 
 -- Questions 34, 43 and 44 -------------------------------------------------------------------------------------------------------------------------
 
-entry_over : {A : Type 0} (xs : List A) (i : ℕ) → length xs ≤ i → entry xs i ≡ nothing
-unfolding entry
-entry_over [] i l = refl
-entry_over (x ∷ xs) zero l = absurd (omega arith)
-entry_over (x ∷ xs) (suc i) l = entry_over xs i (omega arith)
-
 module _ {facts lists : List ℕ} {n : Sizes} {plain used : List ℕ} {x w : ℕ} {ids : List ℕ} (g : Resting facts lists n plain used x w ids) (i j : ℕ) where
   abbrev T : Made
   T = made g.I g.W g.m
@@ -193,12 +196,15 @@ module _ {facts lists : List ℕ} {n : Sizes} {plain used : List ℕ} {x w : ℕ
   abbrev given : Out Made (Unit {0})
   given = case_fact g.S g.M g.ps (hyps_in T w g.many ids) i (tree g.I g.W g.m j) T
 
-  pub fact_missing : (r : Bool) → r ≡ ltb i n.facts → r ≡ false → given ≡ refuse 34 0 T
-  unfolding case_fact fact_at then
-  fact_missing r e f =
-      ap (λ (o : Option Fact). then (found 34 o T) (λ f U. then (ask 43 (same_tree f.judgment (tree g.I g.W g.m j)) U)
-      (λ z N. ask 44 (all (λ h. allowed_hyp g.M g.ps (hyps_in T w g.many ids) (entry g.S.facts h)) f.hyps) N)))
-      (entry_over g.S.facts i (omega (arith, ltb-false i n.facts (sym e ∙ f), g.recorded.many)))
+  -- behind the fact that is found
+  abbrev behind_fact : Fact → Made → Out Made (Unit {0})
+  behind_fact f U =
+      then (ask 43 (same_tree f.judgment (tree g.I g.W g.m j)) U)
+      (λ z N. ask 44 (all (λ h. allowed_hyp g.M g.ps (hyps_in T w g.many ids) (entry g.S.facts h)) f.hyps) N)
+
+  fact_missing : n.facts ≤ i → given ≡ refuse 34 0 T
+  unfolding case_fact then
+  fact_missing l = ap (λ (o : Out Made Fact). then o behind_fact) (fact_none g.recorded T l)
 
   module _ (l : i < n.facts) (there : j < g.m.terms) where
     judged_row : cell 6 facts i 0 < g.m.terms
@@ -208,24 +214,23 @@ module _ {facts lists : List ℕ} {n : Sizes} {plain used : List ℕ} {x w : ℕ
     same = ap (λ (t : Tree). same_tree t (tree g.I g.W g.m j)) (sym (row g i l).judgment.tree) ∙ same_number g.good (cell 6 facts i 0) j judged_row there
 
     found_here : given ≡ then (ask 43 (eqb (cell 6 facts i 0) j) T) (λ z N. ask 44 (all (asked g i l) (fact_of g.S i).hyps) N)
-    unfolding case_fact fact_at then
+    unfolding case_fact then
     found_here =
-        ap (λ (o : Option Fact). then (found 34 o T) (λ f U. then (ask 43 (same_tree f.judgment (tree g.I g.W g.m j)) U)
-        (λ z N. ask 44 (all (λ h. allowed_hyp g.M g.ps (hyps_in T w g.many ids) (entry g.S.facts h)) f.hyps) N))) (row g i l).is
+        ap (λ (o : Out Made Fact). then o behind_fact) (fact_found g.recorded T l)
         ∙ ap (λ (b : Bool). then (ask 43 b T) (λ z N. ask 44 (all (asked g i l) (fact_of g.S i).hyps) N)) same
 
-    pub fact_other : (k : ℕ) → k ≡ cell 6 facts i 0 → (k ≡ j → ⊥) → given ≡ refuse 43 0 T
+    fact_other : (cell 6 facts i 0 ≡ j → ⊥) → given ≡ refuse 43 0 T
     unfolding then
-    fact_other k e q =
+    fact_other q =
         found_here
-        ∙ ap (λ (b : Bool). then (ask 43 b T) (λ z N. ask 44 (all (asked g i l) (fact_of g.S i).hyps) N)) (ne_eqb (cell 6 facts i 0) j (λ z. q (e ∙ z)))
+        ∙ ap (λ (b : Bool). then (ask 43 b T) (λ z N. ask 44 (all (asked g i l) (fact_of g.S i).hyps) N)) (ne_eqb (cell 6 facts i 0) j q)
 
-    module _ (k : ℕ) (e : k ≡ cell 6 facts i 0) (q : k ≡ j) (r : Bool) (a : r ≡ all (asked g i l) (fact_of g.S i).hyps) where
+    module _ (q : cell 6 facts i 0 ≡ j) (r : Bool) (a : r ≡ all (asked g i l) (fact_of g.S i).hyps) where
       last_question : given ≡ ask 44 r T
       unfolding then
       last_question =
           found_here
-          ∙ ap (λ (b : Bool). then (ask 43 b T) (λ z N. ask 44 (all (asked g i l) (fact_of g.S i).hyps) N)) (eq-eqb (cell 6 facts i 0) j (sym e ∙ q))
+          ∙ ap (λ (b : Bool). then (ask 43 b T) (λ z N. ask 44 (all (asked g i l) (fact_of g.S i).hyps) N)) (eq-eqb (cell 6 facts i 0) j q)
           ∙ ap (λ (b : Bool). ask 44 b T) (sym a)
 
       pub fact_rests_not : r ≡ false → given ≡ refuse 44 0 T
@@ -233,3 +238,9 @@ module _ {facts lists : List ℕ} {n : Sizes} {plain used : List ℕ} {x w : ℕ
 
       pub fact_rests : r ≡ true → given ≡ ok tt T
       fact_rests f = last_question ∙ ap (λ (b : Bool). ask 44 b T) f
+
+  -- what `concludes` refuses
+  pub fact_refused : j < g.m.terms → {q : Question} → ((q ≡ Earlier) × (n.facts ≤ i)) ⊎ ((q ≡ CaseJudgment) × (i < n.facts) × (cell 6 facts i 0 ≢ j)) →
+      given ≡ refuse (number_of q) (detail_of q) T
+  fact_refused there (inl p) = fact_missing p.1 ∙ ap (λ (q : Question). refuse (number_of q) (detail_of q) T) (sym p.0)
+  fact_refused there (inr p) = fact_other p.1 there p.2 ∙ ap (λ (q : Question). refuse (number_of q) (detail_of q) T) (sym p.0)

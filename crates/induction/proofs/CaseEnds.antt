@@ -29,7 +29,7 @@ use Rattle.referring.specs.Substitutes.{Below}
 use Rattle.referring.specs.Laws.Substitutes.{below_grown}
 use Rattle.induction.specs.Inducing.{Roomy, PassedBy, motive_in, Moved, Casing, at_constructor, hyps_in, HypsMade, BeforeRest, case_fact, asked, case_terms, InCase}
 use Rattle.induction.proofs.Inducts.{among_has}
-use Rattle.induction.proofs.Supposes.{hyps_front}
+use Rattle.induction.proofs.Supposes.{hyps_front, motive_on}
 use Rattle.referring.specs.Laws.Sounds.{grown_grows}
 
 pub none_cells : (M : Made) (xs : List ℕ) → is_none (args_of M xs) ≡ eqb (length xs) 0
@@ -78,15 +78,6 @@ module _ {facts lists : List ℕ} {n : Sizes} {I W : List ℕ} {m : Mark} {x sor
           subst (Below (64 * length {A = ℕ} (replicate TERMWORDS 0))) (sym back_front)
           (below_grown last (omega (arith, moved.went.grown.good.room, length-replicate {A = ℕ} TERMWORDS 0)) moved.known)
 
-      motive_same : motive_in (made J X new) x sort j premises ≡ motive_in (made I W m) x sort j premises
-      motive_same =
-          λ i. record {
-            variable = x;
-            sort = sort;
-            judgment = grown_tree moved.went.grown j g.motived.there i;
-            premises = grown_args moved.went.grown premises g.motived.known i;
-          }
-
       -- the hypotheses come next
       next : (h : InCase facts lists n I W m x sort j premises used) (i : ℕ) →
           On I W m (case_terms h.S (motive_in (made I W m) x sort j premises) i c own sorts (made I W m)) J X new
@@ -96,7 +87,7 @@ module _ {facts lists : List ℕ} {n : Sizes} {I W : List ℕ} {m : Mark} {x sor
       next h i =
           on_is (on_ok _ (on_start h.motived.good) moved.went)
           (ap (λ (M : Motive). then (hypotheses M own sorts (made J X new))
-          (λ ihs U. case_fact h.S (motive_in (made I W m) x sort j premises) (args_of (made J X new) last) ihs i (tree J X new t) U)) (sym motive_same))
+          (λ ihs U. case_fact h.S (motive_in (made I W m) x sort j premises) (args_of (made J X new) last) ihs i (tree J X new t) U)) (sym (motive_on sort moved.went.grown g.motived)))
 
       module _ (Y Z ids' : List ℕ) (end : Mark) where
         pub end_unsupposed : {q d : ℕ} → Stopped J X Y Z new (hypotheses (motive_in (made J X new) x sort j premises) own sorts (made J X new)) q d end →

@@ -41,6 +41,7 @@ use Rattle.sexp.specs.declared.items.Each.{Each}
 use Rattle.referring.specs.Laws.Substitutes.{below_grown}
 use Rattle.induction.specs.Inducing.{PassedBy, motive_in, Motived, Casing, case_terms, InCase, CaseItem, CaseRead, CaseItems, on_motive, MotiveItems}
 use Rattle.induction.proofs.CaseNames.{walk_behind}
+use Rattle.induction.proofs.Supposes.{motive_on}
 use Rattle.referring.specs.Laws.Sounds.{grown_grows}
 
 -- The constructors from a number on --------------------------------------------------------------------------------------------------------
@@ -73,11 +74,6 @@ passed_on Y Z new (Ok t) o w = on_went o w
 passed_on Y Z new (Err q) o s = on_stopped o s
 
 -- The loop --------------------------------------------------------------------------------------------------------------------------------
-
--- a motive in tables that have grown
-module _ {I W J X : List ℕ} {old now : Mark} (sort : ℕ) {x j : ℕ} {premises : List ℕ} (w : Grown I W J X old now) (g : Motived I W old x j premises) where
-  pub motive_on : motive_in (made J X now) x sort j premises ≡ motive_in (made I W old) x sort j premises
-  motive_on = λ i. record { variable = x; sort = sort; judgment = grown_tree w j g.there i; premises = grown_args w premises g.known i }
 
 module _ {I W J X : List ℕ} {old now : Mark} {x j : ℕ} {premises : List ℕ} (w : Grown I W J X old now) (g : Motived I W old x j premises) where
   pub motived_on : Motived J X now x j premises

@@ -136,6 +136,11 @@ below_row n a w cells r before row last k l =
           ]
     ])
 
+-- a motive in tables that have grown
+module _ {I W J X : List ℕ} {old now : Mark} (sort : ℕ) {x j : ℕ} {premises : List ℕ} (w : Grown I W J X old now) (g : Motived I W old x j premises) where
+  pub motive_on : motive_in (made J X now) x sort j premises ≡ motive_in (made I W old) x sort j premises
+  motive_on = λ i. record { variable = x; sort = sort; judgment = grown_tree w j g.there i; premises = grown_args w premises g.known i }
+
 -- The loop ------------------------------------------------------------------------------------------------------------------------------------
 
 module _ (M : Motive) (v : ℕ) (vs : List ℕ) (s : ℕ) (ss : List ℕ) (U : Made) where
@@ -245,9 +250,6 @@ module _ {I W : List ℕ} {old : Mark} {x j : ℕ} {premises own sorts ids₀ : 
       pub supposing_room : at + length premises < length ids
       supposing_room = omega (arith, roomy, rows_suc many (length premises), q.2, h.place, h.long)
 
-      motive_same : motive_in (made J X now) x sort j premises ≡ motive_in (made I W old) x sort j premises
-      motive_same = λ i. record { variable = x; sort = sort; judgment = grown_tree h.on.grown j g.there i; premises = grown_args h.on.grown premises g.known i }
-
       split : s ≡ sort → On I W old (hypotheses (motive_in (made I W old) x sort j premises) own sorts (made I W old)) J X now
           (then (hypothesis_at (motive_in (made J X now) x sort j premises) v (made J X now))
           (λ y A. then (hypotheses (motive_in (made I W old) x sort j premises) vs' ss' A) (λ ys B. ok (hyps_in (made J X now) (length premises) many ids ++ (y ∷ ys)) B)))
@@ -257,7 +259,7 @@ module _ {I W : List ℕ} {old : Mark} {x j : ℕ} {premises own sorts ids₀ : 
           (ap (λ (o : Out Made (List Hyp)). then o (behind_hyps (hyps_in (made J X now) (length premises) many ids)))
           (step_hyps (motive_in (made I W old) x sort j premises) v vs' s ss' (made J X now) is)
           ∙ then_then (hypothesis_at (motive_in (made I W old) x sort j premises) v (made J X now)) _ _
-          ∙ (λ i. then (hypothesis_at (sym motive_same i) v (made J X now))
+          ∙ (λ i. then (hypothesis_at (sym (motive_on sort h.on.grown g) i) v (made J X now))
           (λ y A. then_then (hypotheses (motive_in (made I W old) x sort j premises) vs' ss' A) (λ ys B. ok (y ∷ ys) B) (behind_hyps (hyps_in (made J X now) (length premises) many ids)) i)))
 
       module _ (is : s ≡ sort) {Y Z : List ℕ} {new : Mark} where

@@ -1,11 +1,10 @@
 // What a case of `induct` makes: the motive at the constructor and at its variables.
 ghost use Rattle.std.specs.Prelude.{◌≡◌, suc, ◌+◌, ◌*◌, ◌<◌, ◌≤◌, length, set, replicate};
 ghost use Rattle.rules.specs.Limits.{VARIABLES, TERMS};
-ghost use Rattle.rules.specs.Tree.{var, app};
-ghost use Rattle.rules.specs.Store.{keep};
+ghost use Rattle.rules.specs.Tree.{app};
 ghost use Rattle.rules.specs.Induct.{hypothesis_at, hypotheses};
 ghost use Rattle.terms.specs.Table.{args_of, tree};
-ghost use Rattle.terms.specs.Lent.{GoodStore, SameTables, KeptAs, made_of};
+ghost use Rattle.terms.specs.Lent.{SameTables, KeptAs, made_of};
 ghost use Rattle.terms.specs.Subst.{replacement};
 ghost use Rattle.referring.specs.Substitutes.{Below};
 ghost use Rattle.induction.specs.Inducing.{motive_of, MotivedIn, CasingIn, MovableIn, MovedAs, judgment_first, premises_first, var_trees, keep_case, at_constructor, HypsMadeAs};
@@ -13,18 +12,9 @@ ghost use Rattle.induction.specs.Inducing.{motive_of, MotivedIn, CasingIn, Movab
 use crate::motive::Motive;
 use questions::Row;
 use referring::substitutes::substitute_all;
-use rules::{NODE, SYMBOLS, VARIABLES};
+use rules::{NODE, VARIABLES};
 use terms::store::Store;
 use terms::substitute::substitute;
-
-// A variable as a term.
-fn keep_var(store: &mut Store<'_>, v: usize) -> Result<usize, Row>
-    requires { GoodStore store.old × (v < VARIABLES) }
-    ensures same_tables { SameTables store.old store.new }
-    ensures kept { KeptAs store.old store.new (var v) (keep (var v) (made_of store.old)) result }
-{
-    store.keep(&[(SYMBOLS + v) as u32])
-}
 
 // The variables as terms, in order, then the constructor c over them.
 fn keep_case(store: &mut Store<'_>, c: usize, own: &[u32]) -> Result<usize, Row>
@@ -35,7 +25,7 @@ fn keep_case(store: &mut Store<'_>, c: usize, own: &[u32]) -> Result<usize, Row>
     let mut node = [0u32; NODE];
     node[0] = c as u32;
     for (k, v) in own.iter().enumerate() {
-        let t = keep_var(store, *v as usize)?;
+        let t = store.keep_var(*v as usize)?;
         node[k + 1] = t as u32;
     }
     let end = own.len() + 1;
@@ -125,7 +115,7 @@ impl Motive<'_> {
         ensures moved_as { let M = made_of store.old in MovedAs store.old store.new (hypothesis_at (motive_of M self.now) v M) out.new result }
         ensures memo_unchanged { memo.new ≡ memo.old }
     {
-        let t = keep_var(store, v)?;
+        let t = store.keep_var(v)?;
         self.premises_first(store, &self.putting(t), memo, out)
     }
 

@@ -16,7 +16,6 @@ use crate::motive::Motive;
 use cells::clear;
 use kernel::readers::constructors;
 use questions::Question;
-use reading::hyps::plain_hyps;
 use reading::reader::Reader;
 use referring::scope::visit_all;
 use referring::source::Source;
@@ -211,13 +210,7 @@ pub fn induct_with(
     let Subject { x, at } = read_subject(reader, cells)?;
     let third = items::after(cells, at);
     let mut hyps = [0; FACTWORDS];
-    plain_hyps(
-        reader.text,
-        source.rows,
-        reader.n,
-        &cells[third..],
-        &mut hyps,
-    )?;
+    reader.plain_hyps(source.rows, &cells[third..], &mut hyps)?;
     let next = items::after(cells, third);
     induct_on(source, store, &cells[next..], x, hyps, memo, ids)
 }

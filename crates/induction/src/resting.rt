@@ -12,7 +12,7 @@ ghost use Rattle.induction.specs.Inducing.{hyps_in, row_among, RestingIn, case_f
 use crate::motive::Rows;
 use questions::Question;
 use referring::source::Facts;
-use state::facts::{is_assumed, is_fact, is_plain, judgment};
+use state::facts::{is_assumed, is_plain, judgment};
 use terms::sets::has;
 
 // Plain hypotheses whose judgments are in the set of terms, and rule hypotheses that are an induction hypothesis, over variables that are in the other set,
@@ -102,12 +102,7 @@ impl Allowed<'_> {
         ensures { (g : RestingIn facts.now self.now) → t < g.m.terms →
             case_fact g.S g.M g.ps (hyps_in (made g.I g.W g.m) self.now.rows.width g.many self.now.rows.cells.now) i (tree g.I g.W g.m t) (made g.I g.W g.m) ≡ asked result (made g.I g.W g.m) }
     {
-        if !is_fact(facts.n, i) {
-            return Err(Question::Earlier);
-        }
-        if judgment(facts.rows, i) != t {
-            return Err(Question::CaseJudgment);
-        }
+        facts.concludes(i, t)?;
         if !self.hyps(facts, i) {
             return Err(Question::CaseHypotheses);
         }

@@ -24,6 +24,7 @@ use Rattle.rules.specs.Laws.Keeping.{Invariant, Keeps, fine, stays, by_then, by_
 use Rattle.rules.proofs.Laws.Still.{name_still, items_still}
 use Rattle.rules.proofs.Laws.ReadWalk.{term_of_keeps, judgment_keeps}
 use Rattle.rules.specs.Laws.Ready.{Ready}
+use Rattle.rules.specs.Laws.Tree.{variables_more}
 use Rattle.terms.specs.declared.store.Mark.{Mark}
 use Rattle.terms.specs.Table.{made, tree, Grown}
 use Rattle.terms.specs.Patterns.{tree_in, bound_of, Cells}
@@ -96,14 +97,6 @@ module _ {I W J X : List ℕ} {old new : Mark} (g : Grown I W J X old new) where
   tree_in_grown zero l = refl
   tree_in_grown (suc x) l = ap some (grown_tree g x l)
 
-variables_more : (t : Tree) (ts : Trees) (w : ℕ) → variables_of (more t ts) w ≡ variables t w || variables_of ts w
-unfolding variables
-variables_more t ts w = go (variables t w)
-  where
-    go : (b : Bool) → elim b [ true ↦ true | false ↦ variables_of ts w ] ≡ b || variables_of ts w
-    go true = refl
-    go false = refl
-
 new_tree : (M : Made) (c : ℕ) → is_new (tree_in M c) ≡ eqb c 0
 unfolding tree_in is_new
 new_tree M zero = refl
@@ -159,7 +152,7 @@ module _ {I W : List ℕ} {m : Mark} {B : List ℕ} {stated : ℕ} {it : Items} 
         record {
           binds = ap (λ (b : Bound). bind b v (tree I W m id)) k.binds ∙ sym (bound_set (made I W m) B v id c l d);
           cells = subst (λ (j : ℕ). Cells j (set B v (id + 1))) n (cells_set (made I W m) B v id c l d);
-          values = λ i w. (variables_more (tree I W m id) it.values w
+          values = λ i w. (ap (λ (s : ℕ → Bool). s w) (variables_more (tree I W m id) it.values)
               ∙ ap (λ (s : ℕ → Bool). variables (tree I W m id) w || s w) k.values
               ∙ sym (cell_vars_set (made I W m) B v id w (omega (arith, l, k.cells.long)) e)) i;
           states = k.states;
