@@ -28,7 +28,8 @@ pub struct OneRule<'a> {
     pub number: usize,
 }
 
-// What items say: a cell for each variable of the rule, the number of a term with 1 added or 0, and the number of the conclusion, where one is stated.
+// What items say: a cell for each variable of the rule, the number of a term with 1 added or 0, which is what patterns are matched and built over, and the
+// number of the conclusion, where one is stated.
 #[derive(Clone, Copy)]
 pub struct Said {
     pub bound: [u32; RULEVARS],

@@ -155,7 +155,7 @@ fn conclude(
 }
 
 // The form, whose items the cells hold. `memo` and `ids` are scratch: zero before and after; of `ids` as many cells are used, and cleared, as the rule
-// has premises.
+// has premises. They are no struct, since `ids` is handed on cut: one more would be made there, and all below would promise that its references are those lent.
 pub fn step(
     source: &Source<'_>,
     rules: &Rules<'_>,

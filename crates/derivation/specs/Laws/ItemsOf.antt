@@ -13,7 +13,7 @@ use Rattle.rules.specs.Out.{Out}
 use Rattle.rules.specs.Text.{same}
 use Rattle.rules.specs.Sexp.{Sexp, count, item, marked}
 use Rattle.rules.specs.Find.{first}
-use Rattle.rules.specs.Tree.{Tree, Trees, var, more, variables, variables_of}
+use Rattle.rules.specs.Tree.{Tree, var, more, variables}
 use Rattle.rules.specs.Store.{Made}
 use Rattle.rules.specs.Theory.{Rule}
 use Rattle.rules.specs.Declare.{no_rule_var, is_new}

@@ -3,7 +3,6 @@ use native.Mathlib.Omega.{arith}
 use lib.ListN.{length-set}
 use Rattle.std.specs.Iterator.Adapters.{enumerate_source, enumerate_count}
 use Rattle.sexp.specs.declared.items.Each.{Each}
-use Rattle.referring.specs.declared.support.Support.{Support}
 use Rattle.sexp.specs.Each.{here, over}
 use Rattle.kernel.proofs.Handed.{handed}
 use Rattle.derivation.proofs.StepRefs.{instances_are, instances_few, refs_start, left_given, left_room, left_refused, left_fits, left_fact, left_again, left_done}
@@ -17,8 +16,7 @@ loop-k-init c =
     record {
       cells = ap (λ (k : Each). k.cells.now) s ∙ c.all.ensures.0;
       tables = (refl, refl);
-      refs = refs_start (ap (λ (k : Support). k.hyps) c.no_support-support.ensures) (ap (λ (k : Support). k.footing) c.no_support-support.ensures)
-          (ap enumerate_count i ∙ e.count) (ap (λ (k : Each). k.at) s ∙ c.all.ensures.1);
+      refs = refs_start refl refl (ap enumerate_count i ∙ e.count) (ap (λ (k : Each). k.at) s ∙ c.all.ensures.1);
       few = omega arith;
       memo = refl;
       long = refl;

@@ -14,7 +14,6 @@ loop-k-init c = rw (
   c.enumerate-k-items.ensures.count,
   c.all.ensures.0,
   c.all.ensures.1,
-  c.no_support-support.ensures,
 ) record {
   cells = refl;
   tables = (refl, refl);
