@@ -1,25 +1,24 @@
 -- What a case may rest on: one hypothesis, all hypotheses of a fact, and the questions of the case's fact. Assumes nothing.
-use mathlib.Core.Path.{◌≡◌, refl, sym, ap, ◌∙◌, subst}
+use mathlib.Core.Path.{◌≡◌, sym, ap, ◌∙◌, subst}
 use mathlib.Core.Bool.{Bool, true, false, ◌&&◌, not}
-use Rattle.std.specs.Prelude.{◌≢◌, ◌⊎◌, Option, None as nothing}
+use Rattle.std.specs.Prelude.{◌≢◌, ◌⊎◌}
 use mathlib.Core.Logic.{inl, inr}
-use mathlib.Core.List.{List, [], ◌∷◌}
-use Prim.Native.Nat.{ℕ, zero, suc, ◌+◌, ◌*◌, ◌<◌, ◌≤◌}
+use mathlib.Core.List.{List, ◌∷◌}
+use Prim.Native.Nat.{ℕ, suc, ◌+◌, ◌*◌, ◌<◌, ◌≤◌}
 use native.Mathlib.Omega.{arith}
-use lib.Dec.{eqb, ltb}
+use lib.Dec.{eqb}
 use native.Mathlib.Numerals.{add-one}
 use lib.ListN.{length, get_or, drop, drop_of_length-le}
 use lib.Seq.{drop-cons}
 use Rattle.state.specs.Entries.{part}
-use borrow.Author.Tests.{eq-eqb, ne_eqb, ltb-false}
+use borrow.Author.Tests.{eq-eqb, ne_eqb}
 use Rattle.rules.specs.Limits.{FACTS}
-use Rattle.rules.specs.Out.{Out, ok, refuse, then, found, ask}
+use Rattle.rules.specs.Out.{Out, ok, refuse, then, ask}
 use Rattle.rules.specs.Find.{any, all, entry}
 use Rattle.rules.specs.Tree.{Tree, same_tree, same_trees}
 use Rattle.rules.specs.Store.{Made}
 use Rattle.rules.specs.State.{Fact, is_plain}
 use Rattle.rules.specs.StateTables.{numbers}
-use Rattle.rules.specs.Reference.{fact_at}
 use Rattle.rules.specs.Induct.{motive_vars, Hyp, allowed_plain, allowed_rule, allowed_hyp}
 use Rattle.rules.specs.Laws.Theory.{All, both, all_at}
 use Rattle.terms.specs.Table.{made, tree}

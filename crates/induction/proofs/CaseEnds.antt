@@ -1,7 +1,7 @@
 -- A case behind its variables: the motive at the constructor, the induction hypotheses, then the questions of its fact. Assumes nothing.
 use mathlib.Core.Path.{◌≡◌, refl, sym, ap, ◌∙◌, subst}
 use mathlib.Core.List.{List, [], ◌∷◌, ◌++◌}
-use Prim.Native.Nat.{ℕ, zero, suc, ◌*◌, ◌<◌, ◌≤◌}
+use Prim.Native.Nat.{ℕ, suc, ◌*◌, ◌<◌, ◌≤◌}
 use native.Mathlib.Omega.{arith}
 use Rattle.std.proofs.Math.Nat.{mul-le-mul_right}
 use lib.Dec.{eqb}
@@ -11,7 +11,7 @@ use lib.Seq.{take_at, length-take-le}
 use Rattle.rules.specs.Limits.{TERMS, TERMWORDS}
 use Rattle.rules.specs.Out.{Out, then}
 use Rattle.rules.specs.Find.{Set, has, union}
-use Rattle.rules.specs.Tree.{Tree, Trees, among}
+use Rattle.rules.specs.Tree.{Trees, among}
 use Rattle.rules.specs.Store.{Made}
 use Rattle.rules.specs.State.{is_none}
 use Rattle.rules.specs.Induct.{Motive, hypotheses}

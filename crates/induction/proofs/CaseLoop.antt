@@ -30,7 +30,7 @@ use Rattle.terms.specs.declared.store.Mark.{Mark}
 use Rattle.terms.specs.Table.{made, Grown}
 use Rattle.terms.specs.Sets.{holds}
 use Rattle.terms.specs.On.{Went, Stopped, On, on_start, on_is, on_ok, on_no, on_stop, on_went, on_stopped, on_done, on_ask_yes, on_ask_no}
-use Rattle.terms.specs.Laws.Growth.{grown_tree, grown_args, grown_there}
+use Rattle.terms.specs.Laws.Growth.{grown_there}
 use Rattle.state.specs.declared.sizes.Sizes.{Sizes}
 use Rattle.state.specs.Held.{Names}
 use Rattle.referring.specs.Laws.Refers.{refers_on}

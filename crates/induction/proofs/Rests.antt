@@ -8,7 +8,7 @@ use native.Mathlib.Decide.{dec_lt}
 use native.Mathlib.Nat.{suc-mul}
 use native.Mathlib.Numerals.{add-one}
 use lib.Dec.{eqb}
-use lib.ListN.{length, get_or, take, drop, length-drop, length-take, length-append, get_or-append, drop_of_length-le}
+use lib.ListN.{length, get_or, take, drop, length-drop, length-append, get_or-append, drop_of_length-le}
 use lib.Pointwise.{pointwise}
 use lib.Seq.{drop-cons, drop_at, get_or-drop, get_or-take, take-nil, length-take-le}
 use borrow.Author.Tests.{eq-eqb, ne_eqb}

@@ -51,7 +51,7 @@ fn read_subject(reader: &Reader<'_>, cells: &[u32]) -> Result<Subject, Question>
     Ok(Subject { x, at })
 }
 
-// The judgments of the facts, by rising number, come into the first cells of `out`; what is answered is how many they are.
+// The judgments of the facts, by rising number, come into the first cells of `out`, as there is no heap for a list; what is answered is how many they are.
 fn judgments_of(rows: &[u32], hyps: &[u64], out: &mut [u32]) -> usize
     requires { (length rows.now ≡ 6 * FACTS) × (length hyps.now ≡ FACTWORDS) × (length out.old ≡ FACTS) }
     ensures { (result ≤ FACTS) × (take result out.new ≡ judgment_cells rows.now (rising FACTS (holds hyps.now))) }
@@ -170,7 +170,8 @@ fn induct_on(
     })
 }
 
-// The form without hypotheses, whose items the cells hold. `memo` and `ids` are scratch: zero before and after.
+// The form without hypotheses, whose items the cells hold. `memo` and `ids` are scratch: zero before and after. They are no struct, since `ids` is handed
+// on cut, to the cells of a motive and of a row: one more would be made at each cut, and all below would promise that its references are those lent.
 pub fn induct(
     source: &Source<'_>,
     store: &mut Store<'_>,

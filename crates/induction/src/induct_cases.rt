@@ -23,7 +23,8 @@ use state::vars::var_sort;
 use terms::sets::{has, insert};
 use terms::store::Store;
 
-// A case as it is spelled: its fact, its constructor, and the variables over which that stands, in as many cells as there are sorts.
+// A case as it is spelled: its fact, its constructor, and the variables over which that stands, in as many cells as there are sorts: there is no heap
+// for a list.
 #[derive(Clone, Copy)]
 struct Case<'a> {
     fact: usize,

@@ -1,6 +1,5 @@
 use mathlib.Core.Path.{ap}
 use mathlib.Core.Bool.{not}
-use native.Mathlib.Omega.{arith}
 use borrow.Author.Tests.{not-true, not-false}
 use Rattle.kernel.proofs.Handed.{handed}
 use Rattle.induction.proofs.Allowed.{facts_asks, fact_refused, fact_rests_not, fact_rests}
