@@ -1,6 +1,5 @@
 -- The nodes that are read and written. Assumes nothing.
-use Rattle.std.proofs.Common.{ℕ, zero, suc, ◌+◌, ◌-◌, ◌<◌, List, [], ◌∷◌, length, take, drop, get_or, subst, sym, arith}
-use native.Mathlib.Decide.{dec_lt}
+use Rattle.std.proofs.Common.{ℕ, zero, suc, ◌-◌, ◌<◌, List, [], ◌∷◌, length, take, drop, get_or, subst, sym, arith}
 use Rattle.std.proofs.Common.{take_all}
 use Rattle.rules.specs.Limits.{SYMBOLS}
 use Rattle.terms.specs.Table.{Shaped, is_var, is_app, Node}
@@ -15,12 +14,8 @@ args_below n [] x l = elim x [ ]
 args_below n (h ∷ []) (is_var p q) l = absurd (omega (arith, p, l))
 args_below n (h ∷ xs) (is_app p q) l = subst (Below n) (sym (take_all (length (h ∷ xs) - 1) xs (omega arith))) q
 
-pub leaf_node : (n h : ℕ) → h < SYMBOLS + 10 → Node n (h ∷ [])
-leaf_node n h b =
-    record {
-      narrow = omega arith;
-      shaped = elim (dec_lt h SYMBOLS) [ yes p ↦ is_app {xs = []} p (λ k l. absurd (omega (arith, l))) | no q ↦ is_var {h = h} (omega arith) (omega arith) ];
-    }
+pub leaf_node : (n h : ℕ) → h < SYMBOLS → Node n (h ∷ [])
+leaf_node n h b = record { narrow = omega arith; shaped = is_app {xs = []} b (λ k l. absurd (omega (arith, l))) }
 
 module _ (n h a b : ℕ) (p : h < SYMBOLS) (l : a < n) (r : b < n) where
   pub pair_node : Node n (h ∷ a ∷ b ∷ [])

@@ -50,7 +50,7 @@ fn read(text: &mut &[u8], store: &mut Store<'_>) -> Result<usize>
             let right = read(text, store)?;
             store.keep(&[F, left as u32, right as u32])
         }
-        digit @ b'0'..=b'9' => store.keep(&[SYMBOLS as u32 + u32::from(digit - b'0')]),
+        digit @ b'0'..=b'9' => store.keep_var(usize::from(digit - b'0')),
         _ => bail!("no term begins with {head}"),
     };
     kept.map_err(no_room)

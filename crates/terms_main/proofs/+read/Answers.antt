@@ -13,6 +13,3 @@ keep-kept-requires-in-102-clause-node t c =
     let left = c.in_ok-left-in-102.ensures.placed in
     let right = c.in_ok-right-in-102.ensures.placed in
     pair_node _ _ _ _ (omega arith) (omega (arith, left.there, right.more)) right.there
-
-pub keep-kept-requires-in-48-to-57-clause-node : goal.keep-kept-requires-in-48-to-57-clause-node
-keep-kept-requires-in-48-to-57-clause-node t c = leaf_node _ _ (omega arith)
