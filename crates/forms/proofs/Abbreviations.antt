@@ -150,9 +150,9 @@ module _ {K : Names} {n : Sizes} {I W : List ℕ} {m : Mark} {cells : List ℕ} 
               def_term_no f =
                   reached_stopped (term g.S (item g.xs 2)) behind_term begun (term_keeps g.S (item g.xs 2) (made I W m) (reads_ready g.reads)) (f def_item)
 
-              module _ {t : ℕ} {right : Bool}
-                  (f : (k : ReadsItem K n I W m (take (length cells - at) (drop at cells))) → TypedRead I W J X m k.S 0 (term k.S k.x (made I W m)) t right new) where
-                term_read : TypedRead I W J X m g.S 0 (term g.S (item g.xs 2) (made I W m)) t right new
+              module _ {t sort : ℕ}
+                  (f : (k : ReadsItem K n I W m (take (length cells - at) (drop at cells))) → TypedRead I W J X m k.S (term k.S k.x (made I W m)) t sort new) where
+                term_read : TypedRead I W J X m g.S (term g.S (item g.xs 2) (made I W m)) t sort new
                 term_read = f def_item
 
                 came : Reached I W m g.S answer J X new (behind_term (tree J X new t) (with_made g.S (made J X new)))

@@ -12,7 +12,7 @@ use lib.Dec.{eqb}
 use lib.ListN.{length, get_or, drop, replicate, drop_of_length-le}
 use lib.Seq.{drop-cons}
 use borrow.Author.Tests.{eq-eqb, ne_eqb, not-true, not-false}
-use Rattle.rules.specs.Limits.{TERMS, TERMWORDS, FACTS, GOALS}
+use Rattle.rules.specs.Limits.{TERMS, TERMWORDS}
 use Rattle.rules.specs.Find.{union, entry, all, has}
 use Rattle.rules.specs.Tree.{Tree, Trees, var, none, more, same_tree, among}
 use Rattle.rules.specs.Store.{Made, number}
@@ -27,13 +27,13 @@ use Rattle.terms.specs.Sets.{holds}
 use Rattle.state.specs.declared.sizes.Sizes.{Sizes}
 use Rattle.cells.specs.declared.Span.{Span}
 use Rattle.state.specs.Held.{records, Recorded}
-use Rattle.state.specs.Rows.{cell, plain_row, list_span, hyps_span}
+use Rattle.state.specs.Rows.{cell, FactAt, GoalAt, plain_row, list_span, hyps_span}
 use Rattle.state.specs.Entries.{part}
 use Rattle.state.specs.RowCells.{no_fact, no_goal}
 use Rattle.state.specs.Numbered.{in_numbered, sound_in}
 use Rattle.state.specs.GoalLaws.{GoalRow, goals_long}
 use Rattle.state.specs.FactLaws.{FactRow, fact_row_lem, goal_row_of, lists_long}
-use Rattle.referring.specs.Recall.{fact_of}
+use Rattle.referring.specs.Recall.{fact_of, RecallsFact}
 use Rattle.forms.specs.Results.{goal_of, ListsHyps, Covers}
 use Rattle.referring.specs.Laws.Refers.{fact_asks}
 use Rattle.referring.specs.Laws.ScopeFree.{from_zeros}
@@ -105,8 +105,8 @@ module _ (facts hyps terms : List ℕ) (k : ℕ) (j : Listing facts hyps terms k
     below g = all_at hyps k 0 g.below l
 
     -- what `is_listed` asks
-    pub listing_asks : (g : ListsHyps facts hyps terms) → (length facts ≡ 6 * FACTS) × (get_or hyps k 0 < FACTS) × (cell 6 facts (get_or hyps k 0) 0 < 64 * length terms)
-    listing_asks g = let a = fact_asks g.recorded (below g) in (a.0, a.1, judgment_below g.recorded (below g) terms g.wide)
+    pub listing_asks : (g : ListsHyps facts hyps terms) → FactAt facts (get_or hyps k 0) × (cell 6 facts (get_or hyps k 0) 0 < 64 * length terms)
+    listing_asks g = (fact_asks g.recorded (below g), judgment_below g.recorded (below g) terms g.wide)
 
     module _ {r : Bool} (e : r ≡ plain_row facts (get_or hyps k 0) && holds terms (cell 6 facts (get_or hyps k 0) 0)) where
       next : {b : Bool} → r ≡ b → (g : ListsHyps facts hyps terms) (hs : Trees) → Each (sound.Has g.trees) hs → holds terms ≡ has (numbers g.trees hs) →
@@ -133,11 +133,11 @@ module _ {rows facts lists : List ℕ} {k i : ℕ} (g : Covers rows facts lists 
   abbrev fact : FactRow (records facts g.footings lists) g.n g.trees g.S i (fact_of g.S i)
   fact = fact_row_lem g.recorded i g.fact
 
-  pub covers_goal : (length rows ≡ 6 * GOALS) × (k < GOALS)
+  pub covers_goal : GoalAt rows k
   covers_goal = (goals_long g.held, omega (arith, g.goal, g.held.few))
 
-  pub covers_fact : (length facts ≡ 6 * FACTS) × (i < FACTS)
-  covers_fact = fact_asks g.recorded g.fact
+  pub covers_fact : (footings : List ℕ) × RecallsFact facts footings lists i
+  covers_fact = (g.footings, record { S = g.S; n = g.n; trees = g.trees; recorded = g.recorded; there = g.fact })
 
   -- the goal's entries
   module _ {s : Span} (e : s ≡ list_span rows k) where
@@ -161,17 +161,11 @@ module _ {rows facts lists : List ℕ} {k i : ℕ} (g : Covers rows facts lists 
     aims_set terms f = from_zeros TERMWORDS (holds terms) (has (part lists s)) f ∙ ap has aims_are
 
     -- the fact's entries
-    module _ {u : Span} (f : u ≡ hyps_span facts i) where
-      pub own_low : u.from ≤ u.end
-      own_low = omega (arith, ap (λ (z : Span). z.from) f, ap (λ (z : Span). z.end) f)
+    module _ {own : List ℕ} (f : own ≡ part lists (hyps_span facts i)) where
+      pub own_are : own ≡ (fact_of g.S i).hyps
+      own_are = f ∙ fact.hyps
 
-      pub own_high : u.end ≤ length lists
-      own_high = omega (arith, ap (λ (z : Span). z.end) f, fact.inside, lists_long g.recorded)
-
-      pub own_are : part lists u ≡ (fact_of g.S i).hyps
-      own_are = ap (λ (z : Span). part lists z) f ∙ fact.hyps
-
-      abbrev pub own_given : (terms : List ℕ) → length terms ≡ TERMWORDS → ListsHyps facts (part lists u) terms
+      abbrev pub own_given : (terms : List ℕ) → length terms ≡ TERMWORDS → ListsHyps facts own terms
       own_given terms w =
           record {
             S = g.S;
@@ -185,8 +179,8 @@ module _ {rows facts lists : List ℕ} {k i : ℕ} (g : Covers rows facts lists 
           }
 
       pub covers_all : (terms : List ℕ) {r : Bool} → length terms ≡ TERMWORDS → holds terms ≡ union (holds (replicate TERMWORDS 0)) (has (part lists s)) →
-          ((h : ListsHyps facts (part lists u) terms) (hs : Trees) → Each (sound.Has h.trees) hs → holds terms ≡ has (numbers h.trees hs) →
-          r ≡ all (λ x. listed hs (entry h.S.facts x)) (part lists u)) →
+          ((h : ListsHyps facts own terms) (hs : Trees) → Each (sound.Has h.trees) hs → holds terms ≡ has (numbers h.trees hs) →
+          r ≡ all (λ x. listed hs (entry h.S.facts x)) own) →
           r ≡ all (λ h. listed (goal_of g.S k).hyps (entry g.S.facts h)) (fact_of g.S i).hyps
       covers_all terms w q a =
           a (own_given terms w) (goal_of g.S k).hyps (all_at g.S.goals k no_goal g.recorded.trees.goals (omega (arith, g.goal, g.held.many))).hyps

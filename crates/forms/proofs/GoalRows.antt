@@ -27,7 +27,7 @@ use Rattle.sexp.specs.declared.items.Item.{Item}
 use Rattle.sexp.specs.declared.items.Item.TheVariants.{Atom, List as Part}
 use Rattle.state.specs.declared.sizes.Sizes.{Sizes}
 use Rattle.state.specs.Held.{GoalsHeld}
-use Rattle.state.specs.Rows.{Fits4}
+use Rattle.state.specs.Rows.{GoalAt, Fits4}
 use Rattle.state.specs.GoalLaws.{goals_long}
 use Rattle.forms.proofs.Variables.{is_new_lem, not_new}
 use Rattle.forms.specs.Goals.{GoalPlace, new_goal, GoalPlaced}
@@ -84,10 +84,9 @@ module _ (x : Sexp) (hs : Trees) (j : Tree) (S : State) where
 module _ {goals rows : List ℕ} {n : Sizes} {cells : List ℕ} (g : GoalPlace goals rows n cells) where
   -- what `put_goal` asks
   pub row_asks : {start end judgment hyps : ℕ} → end ≤ length goals → start ≤ end → judgment < 2 ^ 32 → n.goals < GOALS → hyps ≤ ENTRIES - n.entries →
-      (length rows ≡ 6 * GOALS) × (n.goals < GOALS) × Fits4 start end judgment n.entries × (hyps < 2 ^ 32)
+      GoalAt rows n.goals × Fits4 start end judgment n.entries × (hyps < 2 ^ 32)
   row_asks h k j l m = (
-    goals_long g.held,
-    l,
+    (goals_long g.held, l),
     record { first = omega (arith, h, k, g.short); second = omega (arith, h, g.short); third = j; fourth = omega (arith, g.fits) },
     omega (arith, m),
   )

@@ -8,7 +8,6 @@ use native.Mathlib.Omega.{arith}
 use lib.Dec.{eqb}
 use lib.ListN.{length, take, drop, set}
 use borrow.Author.Tests.{eq-eqb, ne_eqb, not-true, not-false}
-use Rattle.rules.specs.Limits.{GOALS}
 use Rattle.rules.specs.Lex.{letters}
 use Rattle.rules.specs.Out.{Out, ok, refuse, then, ask, found}
 use Rattle.rules.specs.Find.{entry, all, change}
@@ -35,7 +34,7 @@ use Rattle.terms.specs.Laws.Growth.{made_length, grown_tree, grown_there}
 use Rattle.terms.specs.Laws.Numbers.{same_number}
 use Rattle.state.specs.declared.sizes.Sizes.{Sizes}
 use Rattle.state.specs.Held.{Names, GoalsHeld}
-use Rattle.state.specs.Rows.{cell}
+use Rattle.state.specs.Rows.{GoalAt, cell}
 use Rattle.state.specs.RowCells.{no_goal}
 use Rattle.state.specs.GoalLaws.{GoalRow, goals_long}
 use Rattle.state.specs.FactLaws.{goal_row_of}
@@ -162,7 +161,7 @@ module _ {K : Names} {rows facts lists : List ℕ} {n : Sizes} {I W : List ℕ} 
             goal_there = omega (arith, named_inside g.S.goals (letters (drop start K.text)) k is_goal, g.held.many)
 
             -- what the readers of a goal ask
-            pub goal_asks : (length rows ≡ 6 * GOALS) × (k < GOALS)
+            pub goal_asks : GoalAt rows k
             goal_asks = (goals_long g.held, omega (arith, goal_there, g.held.few))
 
             row : GoalRow rows lists (made I W m) g.S.goals k (goal_of g.S k)
@@ -288,7 +287,7 @@ module _ {K : Names} {rows facts lists : List ℕ} {n : Sizes} {I W : List ℕ} 
 module _ {K : Names} {rows facts lists : List ℕ} {n : Sizes} {I W : List ℕ} {m : Mark} {cells : List ℕ} (g : TakesResult K rows facts lists n I W m cells) {J X : List ℕ} {k : ℕ}
     {new : Mark} (f : (h : TakesResult K rows facts lists n I W m cells) → GoalMet n I W J X m h.S (result h.xs h.S) k new) where
   -- what `take_goal` asks
-  pub met_asks : (length rows ≡ 6 * GOALS) × (k < GOALS)
+  pub met_asks : GoalAt rows k
   met_asks = let z = f g in (goals_long g.held, omega (arith, z.goal, g.held.few))
 
   pub result_taken : {after : List ℕ} → after ≡ set rows (6 * k + 5) 1 → ResultTaken rows after n I W J X m g.S (result g.xs g.S) new

@@ -31,7 +31,7 @@ use Rattle.kernel.specs.Held.{SortsHeld, SymbolsHeld}
 use Rattle.kernel.specs.SignatureRows.{sorts_few}
 use Rattle.state.specs.declared.sizes.Sizes.{Sizes}
 use Rattle.state.specs.Held.{VarsHeld}
-use Rattle.state.specs.Rows.{Fits4}
+use Rattle.state.specs.Rows.{VarAt, Fits4}
 use Rattle.state.specs.VarLaws.{vars_long}
 use Rattle.forms.specs.Declares.{AddsVar, VarAdded}
 
@@ -151,11 +151,11 @@ sort_small T h bs r {k} e f =
     let s = first_some (λ (n : Name). same n.bytes bs) T.sorts 1 k no_name (found_at (sort_named T bs) r k e f) in
     omega (arith, s.is, s.inside, h.many, sorts_few h)
 
-module _ {theory goals text sorts symbols vars : List ℕ} {n : Sizes} {which : ℕ} {cells : List ℕ} (g : AddsVar theory goals text sorts symbols vars n which cells) where
+module _ {theory goals text sorts symbols vars : List ℕ} {n : Sizes} {cells : List ℕ} (g : AddsVar theory goals text sorts symbols vars n cells) where
   module _ {x : Item} (a : (ys : Sexps) → cells ≡ encodes ys → x ≡ item_of (place ys 1) (item ys 1)) where
     -- the name is a list
-    pub var_no_name : {u w : ℕ} → x ≡ Part u w → add_var which g.xs g.S ≡ refuse 21 0 g.S
-    var_no_name e = var_unnamed which g.xs g.S (nth_part g.holds 1 a (omega (arith, g.many)) e).is
+    pub var_no_name : (which : ℕ) {u w : ℕ} → x ≡ Part u w → add_var which g.xs g.S ≡ refuse 21 0 g.S
+    var_no_name which e = var_unnamed which g.xs g.S (nth_part g.holds 1 a (omega (arith, g.many)) e).is
 
     module _ {start : ℕ} (e : x ≡ Atom start) where
       pub var_name_lem : AtomText text (item g.xs 1) start
@@ -163,8 +163,8 @@ module _ {theory goals text sorts symbols vars : List ℕ} {n : Sizes} {which : 
 
       module _ {y : Item} (b : (ys : Sexps) → cells ≡ encodes ys → y ≡ item_of (place ys 2) (item ys 2)) where
         -- the sort is a list
-        pub var_no_sort : {u w : ℕ} → y ≡ Part u w → add_var which g.xs g.S ≡ refuse 21 0 g.S
-        var_no_sort f = var_listed which g.xs g.S var_name_lem.is (nth_part g.holds 2 b (omega (arith, g.many)) f).is
+        pub var_no_sort : (which : ℕ) {u w : ℕ} → y ≡ Part u w → add_var which g.xs g.S ≡ refuse 21 0 g.S
+        var_no_sort which f = var_listed which g.xs g.S var_name_lem.is (nth_part g.holds 2 b (omega (arith, g.many)) f).is
 
         module _ {from : ℕ} (f : y ≡ Atom from) where
           pub var_sort_text : AtomText text (item g.xs 2) from
@@ -175,8 +175,8 @@ module _ {theory goals text sorts symbols vars : List ℕ} {n : Sizes} {which : 
             sort_told : r ≡ (sort_named g.S.theory (letters (drop from text)))
             sort_told = s g.S.theory g.sorts_are ∙ ap (λ bs. (sort_named g.S.theory bs)) (atom_part text from last var_sort_text.inside l)
 
-            pub var_sort_missing : r ≡ nothing → add_var which g.xs g.S ≡ refuse 21 0 g.S
-            var_sort_missing c =
+            pub var_sort_missing : (which : ℕ) → r ≡ nothing → add_var which g.xs g.S ≡ refuse 21 0 g.S
+            var_sort_missing which c =
                 var_unsorted which g.xs g.S var_name_lem.is var_sort_text.is
                 (found_missing (sort_named g.S.theory (letters (drop from text))) r sort_told c)
 
@@ -187,8 +187,8 @@ module _ {theory goals text sorts symbols vars : List ℕ} {n : Sizes} {which : 
               pub var_sort_small : k < 2 ^ 32
               var_sort_small = omega (arith, sort_small g.S.theory g.sorts_are (letters (drop from text)) r sort_told c)
 
-              pub var_is_marked : {b : Bool} → b ≡ marked (letters (drop start text)) → b ≡ true → add_var which g.xs g.S ≡ refuse 21 0 g.S
-              var_is_marked m t = var_marked_lem which g.xs g.S var_name_lem.is var_sort_text.is sort_is (sym m ∙ t)
+              pub var_is_marked : (which : ℕ) {b : Bool} → b ≡ marked (letters (drop start text)) → b ≡ true → add_var which g.xs g.S ≡ refuse 21 0 g.S
+              var_is_marked which m t = var_marked_lem which g.xs g.S var_name_lem.is var_sort_text.is sort_is (sym m ∙ t)
 
               module _ {mk : Bool} (m : mk ≡ marked (letters (drop start text))) (no : mk ≡ false)
                   {end : ℕ} (d : end ≡ start + length (letters (drop start text))) {u : Bool}
@@ -197,30 +197,29 @@ module _ {theory goals text sorts symbols vars : List ℕ} {n : Sizes} {which : 
                 free_told : u ≡ free g.S (letters (drop start text))
                 free_told = v g.S g.inputs g.symbols_are g.vars_are ∙ ap (free g.S) (atom_part text start end var_name_lem.inside d)
 
-                pub var_is_used : u ≡ false → add_var which g.xs g.S ≡ refuse 21 0 g.S
-                var_is_used t = var_used which g.xs g.S var_name_lem.is var_sort_text.is sort_is (sym m ∙ no) (sym free_told ∙ t)
+                pub var_is_used : (which : ℕ) → u ≡ false → add_var which g.xs g.S ≡ refuse 21 0 g.S
+                var_is_used which t = var_used which g.xs g.S var_name_lem.is var_sort_text.is sort_is (sym m ∙ no) (sym free_told ∙ t)
 
                 module _ (t : u ≡ true) where
-                  pub var_no_room : VARIABLES ≤ n.vars → add_var which g.xs g.S ≡ refuse 60 7 g.S
-                  var_no_room q =
+                  pub var_no_room : (which : ℕ) → VARIABLES ≤ n.vars → add_var which g.xs g.S ≡ refuse 60 7 g.S
+                  var_no_room which q =
                       var_full which g.xs g.S var_name_lem.is var_sort_text.is sort_is (sym m ∙ no) (sym free_told ∙ t)
                       (omega (arith, g.vars_are.stand.many))
 
-                  pub var_fits : n.vars < VARIABLES → (length vars ≡ 4 * VARIABLES) × (n.vars < VARIABLES) × Fits4 k which start end
+                  pub var_fits : n.vars < VARIABLES → VarAt vars n.vars × Fits4 k start end 0
                   var_fits q = (
-                    vars_long g.vars_are.stand,
-                    q,
+                    (vars_long g.vars_are.stand, q),
                     record {
                       first = var_sort_small;
-                      second = g.small;
-                      third = omega (arith, var_name_lem.inside, g.short);
-                      fourth = omega (arith, atom_high text start end var_name_lem.inside d, g.short);
+                      second = omega (arith, var_name_lem.inside, g.short);
+                      third = omega (arith, atom_high text start end var_name_lem.inside d, g.short);
+                      fourth = omega arith;
                     },
                   )
 
-                  pub var_is_added : n.vars < VARIABLES → {after : List ℕ} → after ≡ sets vars (4 * n.vars) (k ∷ which ∷ start ∷ end ∷ []) →
+                  pub var_is_added : (which : ℕ) → n.vars < VARIABLES → {after : List ℕ} → after ≡ sets vars (4 * n.vars) (k ∷ which ∷ start ∷ end ∷ []) →
                       VarAdded text vars after n which g.S (add_var which g.xs g.S)
-                  var_is_added q o =
+                  var_is_added which q o =
                       record {
                         new = new_var k which start (letters (drop start text));
                         end = end;

@@ -7,7 +7,7 @@ use Rattle.terms.specs.declared.store.Store.{Store}
 use Rattle.state.specs.declared.board.Given.{Given}
 use Rattle.state.specs.declared.board.Board.{Board}
 use Rattle.state.specs.Held.{Names, Records, records}
-use Rattle.state.specs.Stands.{Texts, texts, Board as Tables, board, Stands}
+use Rattle.state.specs.Stands.{Texts, texts, tables_of, Stands}
 use Rattle.reading.specs.Reader.{names_of, reader_of}
 use Rattle.forms.specs.Halted.{ReadsForm}
 use Rattle.forms.specs.Declares.{AddsVar}
@@ -31,18 +31,14 @@ names_in g b = names_of (reader_of g b)
 abbrev pub records_of : Board → Records
 records_of b = records b.facts.now b.footings.now b.lists.now
 
--- all that a form changes
-abbrev pub tables_of : Board → Store → Tables
-tables_of b s = board b.vars.now s.index.now s.words.now b.defs.now b.rows.now b.facts.now b.footings.now b.lists.now
-
 -- they stand for S
 abbrev pub StandsIn : Given → Board → Store → State → Type 0
 StandsIn g b s S = Stands (texts_of g) (theory_of g) (tables_of b s) b.n s.mark S
 
 -- What a form is given ---------------------------------------------------------------------------------------------------------------
 
-abbrev pub AddsVarIn : Given → Board → ℕ → List ℕ → Type 0
-AddsVarIn g b which cells = AddsVar g.theory.now g.goals.now g.text.now g.sorts.now g.symbols.now b.vars.now b.n which cells
+abbrev pub AddsVarIn : Given → Board → List ℕ → Type 0
+AddsVarIn g b cells = AddsVar g.theory.now g.goals.now g.text.now g.sorts.now g.symbols.now b.vars.now b.n cells
 
 abbrev pub ReadsFormIn : Given → Board → Store → List ℕ → ℕ → Type 0
 ReadsFormIn g b s cells least = ReadsForm (names_in g b) b.n s.index.now s.words.now s.mark cells least

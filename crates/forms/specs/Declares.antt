@@ -1,5 +1,5 @@
 -- What the forms that declare a variable or an abbreviation are given and what they answer, beside what the definition answers: K. Assumes nothing.
-use Rattle.std.specs.Prelude.{◌≡◌, List, [], ◌∷◌, ◌++◌, ℕ, ◌+◌, ◌*◌, ◌^◌, ◌<◌, ◌≤◌, length, Result, Ok, Err}
+use Rattle.std.specs.Prelude.{◌≡◌, List, [], ◌∷◌, ◌++◌, ℕ, ◌+◌, ◌*◌, ◌<◌, ◌≤◌, length, Result, Ok, Err}
 use Rattle.std.proofs.lemmas.List.Edits.{sets}
 use Rattle.rules.specs.Limits.{LENGTH, VARIABLES, DEFS}
 use Rattle.rules.specs.Out.{Out, ok, refuse}
@@ -26,8 +26,8 @@ use Rattle.forms.specs.Halted.{Makes, Halts}
 
 -- Variables ------------------------------------------------------------------------------------------------------------------------
 
--- sorts, symbols and variables in their tables, and the items of a form; the text of a new name is a number that fits into a cell
-pub record AddsVar (theory goals text sorts symbols vars : List ℕ) (n : Sizes) (which : ℕ) (cells : List ℕ) : Type 0 where
+-- sorts, symbols and variables in their tables, and the items of a form
+pub record AddsVar (theory goals text sorts symbols vars : List ℕ) (n : Sizes) (cells : List ℕ) : Type 0 where
   pub S : State
   pub xs : Sexps
   pub inputs : List ℕ
@@ -37,7 +37,6 @@ pub record AddsVar (theory goals text sorts symbols vars : List ℕ) (n : Sizes)
   pub holds : Holds text cells xs
   pub many : 3 ≤ count xs
   pub short : length text ≤ LENGTH
-  pub small : which < 2 ^ 32
 
 -- one variable more, whose name stands in the text: its row is in the table
 pub record VarAdded (text before after : List ℕ) (n : Sizes) (which : ℕ) (S : State) (K : Out State (Unit {0})) : Type 0 where

@@ -6,14 +6,14 @@ use Rattle.rules.specs.State.{State, Counts}
 use Rattle.kernel.specs.Parsed.{TheoryLists}
 use Rattle.terms.specs.declared.store.Mark.{Mark}
 use Rattle.state.specs.declared.sizes.Sizes.{Sizes}
-use Rattle.state.specs.Stands.{Texts, Board, board, Stands}
+use Rattle.state.specs.Stands.{Texts, Board, board, tables_of, Stands}
 use Rattle.questions.specs.declared.Question.{Question}
 use Rattle.questions.specs.Numbers.{number_of, detail_of}
 use Rattle.terms.specs.declared.store.Store.{Store}
 use Rattle.state.specs.declared.board.Given.{Given}
 use Rattle.state.specs.declared.board.Board.{Board as Lent}
 use Rattle.forms.specs.Halted.{Makes}
-use Rattle.forms.specs.Boards.{texts_of, theory_of, tables_of}
+use Rattle.forms.specs.Boards.{texts_of, theory_of}
 
 -- K answers a state for which the tables stand; c: what is counted then
 pub record Moves (X : Texts) (T : TheoryLists) (B : Board) (n : Sizes) (m : Mark) (K : Out State (Unit {0})) (c : Counts) : Type 0 where

@@ -4,6 +4,7 @@ ghost use Rattle.rules.specs.Theory.{constructor_named, predicate_named};
 ghost use Rattle.rules.specs.Declare.{is_new};
 ghost use Rattle.rules.specs.State.{State, var_named};
 ghost use Rattle.rules.specs.Forms.{add_var, add_def};
+ghost use Rattle.questions.specs.Numbers.{text_number};
 ghost use Rattle.kernel.specs.Held.{SymbolsHeld};
 ghost use Rattle.kernel.specs.Readers.{NamedSymbols};
 ghost use Rattle.terms.specs.Lent.{SameTables};
@@ -13,8 +14,8 @@ ghost use Rattle.forms.specs.Boards.{AddsVarIn, ReadsFormIn, SameBoard, OnlyVars
 ghost use Rattle.forms.specs.Declares.{VarAs, NamedAs, DefAs};
 
 use kernel::atoms::marked;
-use kernel::readers::{constructor_named, predicate_named, sort_named};
-use questions::{Question, Row};
+use kernel::readers::sort_named;
+use questions::{Question, Row, Text};
 use reading::reader::reader_of;
 use rules::{DEFS, VARIABLES};
 use sexp::items::Item;
@@ -32,22 +33,23 @@ fn is_unused(given: &Given<'_>, board: &Board<'_>, name: &[u8]) -> bool
         result ≡ is_new (constructor_named S.theory name.now) && (is_new (predicate_named S.theory name.now) && is_new (var_named S.vars name.now)) }
 {
     let n = board.n;
-    constructor_named(given.theory, given.symbols, n.symbols, name).is_none()
-        && predicate_named(given.theory, given.symbols, n.symbols, name).is_none()
+    let symbols = reader_of(given, board).symbol_table();
+    symbols.constructor_named(name).is_none()
+        && symbols.predicate_named(name).is_none()
         && var_named(given.goals, given.text, board.vars, n.vars, name).is_none()
 }
 
-// `(var NAME SORT)`, by the items of the form; `which` is the text of its name, 2 for the goals and 3 for the proof.
+// `(var NAME SORT)`, by the items of the form; its name stands in that text.
 pub fn add_var(
     given: &Given<'_>,
     board: &mut Board<'_>,
-    which: usize,
+    text: Text,
     cells: &[u32],
 ) -> Result<(), Question>
-    requires { AddsVarIn given.now board.old which cells.now }
+    requires { AddsVarIn given.now board.old cells.now }
     ensures same_board { SameBoard board.old board.new }
     ensures only { OnlyVars board.old board.new }
-    ensures var_as { (g : AddsVarIn given.now board.old which cells.now) →
+    ensures var_as { (g : AddsVarIn given.now board.old cells.now) → let which = text_number text in
         VarAs given.now board.old board.new which g.S (add_var which g.xs g.S) result }
 {
     let Item::Atom(start) = items::nth(cells, 1) else {
@@ -56,22 +58,22 @@ pub fn add_var(
     let Item::Atom(from) = items::nth(cells, 2) else {
         return Err(Question::Variable);
     };
-    let text = given.text;
-    let last = lex::atom_end(text, from);
-    let Some(sort) = sort_named(given.theory, given.sorts, board.n.sorts, &text[from..last]) else {
+    let bytes = given.text;
+    let last = lex::atom_end(bytes, from);
+    let Some(sort) = sort_named(given.theory, given.sorts, board.n.sorts, &bytes[from..last]) else {
         return Err(Question::Variable);
     };
-    if marked(text, start) {
+    if marked(bytes, start) {
         return Err(Question::Variable);
     }
-    let end = lex::atom_end(text, start);
-    if !is_unused(given, board, &text[start..end]) {
+    let end = lex::atom_end(bytes, start);
+    if !is_unused(given, board, &bytes[start..end]) {
         return Err(Question::Variable);
     }
     if board.n.vars >= VARIABLES {
         return Err(Question::Room(Row::Variables));
     }
-    put_var(board.vars, board.n.vars, sort, which, start, end);
+    put_var(board.vars, board.n.vars, sort, Some(text), start, end);
     board.n.vars += 1;
     Ok(())
 }
@@ -108,7 +110,7 @@ fn new_def(
         return Err(Question::Defined);
     }
     let at = items::place(cells, 2);
-    let typed = reader_of(given, board).term(store, &cells[at..], 0)?;
+    let typed = reader_of(given, board).term(store, &cells[at..])?;
     let None = def_named(text, board.defs, board.n.defs, &text[start..end]) else {
         return Err(Question::Defined);
     };

@@ -1,6 +1,6 @@
 // `(result NAME REF)`: questions 50 to 52. A goal's result has come.
 ghost use Rattle.std.specs.Prelude.{◌≡◌, ◌&&◌, ◌*◌, ◌<◌, length, replicate};
-ghost use Rattle.rules.specs.Limits.{TERMS, FACTS};
+ghost use Rattle.rules.specs.Limits.{TERMS};
 ghost use Rattle.rules.specs.Find.{entry, all, has};
 ghost use Rattle.rules.specs.Tree.{Trees};
 ghost use Rattle.rules.specs.Forms.{listed, result as result_of};
@@ -9,26 +9,27 @@ ghost use Rattle.rules.specs.Laws.Keeping.{Each};
 ghost use Rattle.rules.specs.Laws.Sound.{sound};
 ghost use Rattle.terms.specs.Lent.{SameTables};
 ghost use Rattle.terms.specs.Sets.{holds};
-ghost use Rattle.state.specs.Rows.{cell, plain_row};
+ghost use Rattle.state.specs.Rows.{cell, FactAt, plain_row};
 ghost use Rattle.referring.specs.Recall.{fact_of};
 ghost use Rattle.forms.specs.Boards.{TakesResultIn, SameBoard, OnlyRows};
 ghost use Rattle.forms.specs.Results.{goal_of, ListsHyps, Covers, MetAs, ResultedAs};
 
+use cells::Span;
 use questions::Question;
 use referring::references::insert_all;
-use referring::source::source_of;
+use referring::source::{Facts, source_of};
 use rules::TERMWORDS;
 use sexp::items::Item;
 use sexp::{items, lex};
 use state::board::{Board, Given};
-use state::facts::{hyps as hyps_of, is_plain, judgment};
+use state::facts::{is_plain, judgment};
 use state::goals::{goal_hyps, goal_judgment, goal_named, is_taken, take_goal};
 use terms::sets::has;
 use terms::store::Store;
 
 // Whether fact h is a plain hypothesis, with a judgment of the set.
 fn is_listed(facts: &[u32], h: usize, terms: &[u64]) -> bool
-    requires { (length facts.now ≡ 6 * FACTS) × (h < FACTS) × (cell 6 facts.now h 0 < 64 * length terms.now) }
+    requires { FactAt facts.now h × (cell 6 facts.now h 0 < 64 * length terms.now) }
     ensures { result ≡ plain_row facts.now h && holds terms.now (cell 6 facts.now h 0) }
 {
     is_plain(facts, h) && has(terms, judgment(facts, h))
@@ -49,20 +50,15 @@ fn all_listed(facts: &[u32], hyps: &[u32], terms: &[u64]) -> bool
 }
 
 // Question 51: whether goal k lists each hypothesis of fact i, on which a reference rests that names it bare.
-fn covers(board: &Board<'_>, k: usize, i: usize) -> bool
-    requires { let b = board.now in Covers b.rows.now b.facts.now b.lists.now k i }
-    ensures { let b = board.now in (g : Covers b.rows.now b.facts.now b.lists.now k i) →
+fn covers(facts: &Facts<'_>, goals: &[u32], k: usize, i: usize) -> bool
+    requires { Covers goals.now facts.now.rows.now facts.now.lists.now k i }
+    ensures { (g : Covers goals.now facts.now.rows.now facts.now.lists.now k i) →
         result ≡ all (λ h. listed (goal_of g.S k).hyps (entry g.S.facts h)) (fact_of g.S i).hyps }
 {
     let mut terms = [0u64; TERMWORDS];
-    let aims = goal_hyps(board.rows, k);
-    let first = aims.from;
-    let last = aims.end;
-    insert_all(&board.lists[first..last], &mut terms);
-    let own = hyps_of(board.facts, i);
-    let from = own.from;
-    let end = own.end;
-    all_listed(board.facts, &board.lists[from..end], &terms)
+    let Span { from, end } = goal_hyps(goals, k);
+    insert_all(&facts.lists[from..end], &mut terms);
+    all_listed(facts.rows, facts.hyps(i), &terms)
 }
 
 // The goal whose result has come, by the items of the form. `memo` is scratch: zero before and after.
@@ -92,8 +88,10 @@ fn met(
         return Err(Question::ResultName);
     }
     let at = items::place(cells, 2);
-    let found = source_of(given, board).reference(store, &cells[at..], memo)?;
-    if found.bare && !covers(board, k, found.fact) {
+    let source = source_of(given, board);
+    let found = source.reference(store, &cells[at..], memo)?;
+    let facts = source.facts();
+    if found.bare && !covers(&facts, board.rows, k, found.fact) {
         return Err(Question::ResultHypotheses);
     }
     if found.judgment != goal_judgment(board.rows, k) {

@@ -1,6 +1,6 @@
 -- From the answers of `add_var` and `add_def` to all tables at once. Each law takes what the call is given from the tables, then its answer.
 -- Assumes nothing.
-use Rattle.std.specs.Prelude.{◌≡◌, refl, List, [], ◌∷◌, ◌++◌, ℕ, ◌^◌, ◌<◌, ◌≤◌, Result, Ok, Err}
+use Rattle.std.specs.Prelude.{◌≡◌, refl, List, [], ◌∷◌, ◌++◌, ℕ, ◌≤◌, Result, Ok, Err}
 use Rattle.std.proofs.Common.{sym, ap, ◌∙◌, subst}
 use Rattle.rules.specs.Out.{Out}
 use Rattle.rules.specs.Sexp.{Sexps, count}
@@ -32,9 +32,9 @@ module _ {X : Texts} {T : TheoryLists} {B : Board} {n : Sizes} {m : Mark} {S : S
       ReadsForm (names X.theory X.goals X.text T.symbols T.inputs B.vars B.defs) n B.index B.words m cells least
   gives_form {xs = xs} k l = record { S = S; xs = xs; reads = record { spelling = h.spelling; good = h.good }; store = h.store; holds = k; many = l }
 
-  abbrev pub gives_var : {which : ℕ} {cells : List ℕ} {xs : Sexps} → which < 2 ^ 32 → Holds X.text cells xs → 3 ≤ count xs →
-      AddsVar X.theory X.goals X.text T.sorts T.symbols B.vars n which cells
-  gives_var {xs = xs} w k l =
+  abbrev pub gives_var : {cells : List ℕ} {xs : Sexps} → Holds X.text cells xs → 3 ≤ count xs →
+      AddsVar X.theory X.goals X.text T.sorts T.symbols B.vars n cells
+  gives_var {xs = xs} k l =
       record {
         S = S;
         xs = xs;
@@ -45,7 +45,6 @@ module _ {X : Texts} {T : TheoryLists} {B : Board} {n : Sizes} {m : Mark} {S : S
         holds = k;
         many = l;
         short = h.spelling.short;
-        small = w;
       }
 
 -- K: what the definition answers

@@ -8,10 +8,10 @@ use mathlib.Core.Bool.{not}
 use Rattle.forms.proofs.declare.add_var.Goals as goal
 
 pub returns-in_default-clause-var_as : goal.returns-in_default-clause-var_as
-returns-in_default-clause-var_as c = λ g. (var_no_name g c.nth.ensures c.in_default.is, refl, refl)
+returns-in_default-clause-var_as c = λ g. (var_no_name g c.nth.ensures _ c.in_default.is, refl, refl)
 
 pub returns-in_default-nth-clause-var_as : goal.returns-in_default-nth-clause-var_as
-returns-in_default-nth-clause-var_as c = λ g. (var_no_sort g c.nth.ensures c.in-Atom.is c.nth-2.ensures c.in_default-nth.is, refl, refl)
+returns-in_default-nth-clause-var_as c = λ g. (var_no_sort g c.nth.ensures c.in-Atom.is c.nth-2.ensures _ c.in_default-nth.is, refl, refl)
 
 pub atom_end-last-requires : goal.atom_end-last-requires
 atom_end-last-requires c = omega (arith, (var_sort_text c.requires c.nth.ensures c.in-Atom.is c.nth-2.ensures c.in-Atom-nth.is).inside)
@@ -22,7 +22,7 @@ slice_bounds-sort_named-end c = atom_high _ _ _ (var_sort_text c.requires c.nth.
 pub returns-in_default-sort_named-clause-var_as : goal.returns-in_default-sort_named-clause-var_as
 returns-in_default-sort_named-clause-var_as c = λ g. (
   var_sort_missing g c.nth.ensures c.in-Atom.is c.nth-2.ensures c.in-Atom-nth.is c.atom_end-last.ensures c.sort_named.ensures
-      c.in_default-sort_named.is,
+      _ c.in_default-sort_named.is,
   refl,
   refl,
 )
@@ -33,7 +33,7 @@ marked-requires c = (var_name_lem c.requires c.nth.ensures c.in-Atom.is).inside
 pub returns-then-marked-clause-var_as : goal.returns-then-marked-clause-var_as
 returns-then-marked-clause-var_as c = λ g. (
   var_is_marked g c.nth.ensures c.in-Atom.is c.nth-2.ensures c.in-Atom-nth.is c.atom_end-last.ensures c.sort_named.ensures
-      c.in-Some.is c.marked.ensures c.if-marked.true,
+      c.in-Some.is _ c.marked.ensures c.if-marked.true,
   refl,
   refl,
 )
@@ -47,7 +47,7 @@ slice_bounds-is_unused-end c = atom_high _ _ _ (var_name_lem c.requires c.nth.en
 pub returns-then-not-is_unused-clause-var_as : goal.returns-then-not-is_unused-clause-var_as
 returns-then-not-is_unused-clause-var_as c = λ g. (
   var_is_used g c.nth.ensures c.in-Atom.is c.nth-2.ensures c.in-Atom-nth.is c.atom_end-last.ensures c.sort_named.ensures
-      c.in-Some.is c.marked.ensures c.if-marked.false c.atom_end-end.ensures c.is_unused.ensures (not-true _ (ap not c.if-not-is_unused.true)),
+      c.in-Some.is c.marked.ensures c.if-marked.false c.atom_end-end.ensures c.is_unused.ensures _ (not-true _ (ap not c.if-not-is_unused.true)),
   refl,
   refl,
 )
@@ -56,7 +56,7 @@ pub returns-then-board-ge-VARIABLES-clause-var_as : goal.returns-then-board-ge-V
 returns-then-board-ge-VARIABLES-clause-var_as c = λ g. (
   var_no_room g c.nth.ensures c.in-Atom.is c.nth-2.ensures c.in-Atom-nth.is c.atom_end-last.ensures c.sort_named.ensures
       c.in-Some.is c.marked.ensures c.if-marked.false c.atom_end-end.ensures c.is_unused.ensures (not-false _ (ap not c.if-not-is_unused.false))
-      c.if-board-ge-VARIABLES.true,
+      _ c.if-board-ge-VARIABLES.true,
   refl,
   refl,
 )
@@ -68,7 +68,7 @@ put_var-requires c = var_fits c.requires c.nth.ensures c.in-Atom.is c.nth-2.ensu
 pub returns-clause-var_as : goal.returns-clause-var_as
 returns-clause-var_as c = λ g. (
   var_is_added g c.nth.ensures c.in-Atom.is c.nth-2.ensures c.in-Atom-nth.is c.atom_end-last.ensures c.sort_named.ensures
-      c.in-Some.is c.marked.ensures c.if-marked.false c.atom_end-end.ensures c.is_unused.ensures (not-false _ (ap not c.if-not-is_unused.false)) c.if-board-ge-VARIABLES.false
+      c.in-Some.is c.marked.ensures c.if-marked.false c.atom_end-end.ensures c.is_unused.ensures (not-false _ (ap not c.if-not-is_unused.false)) _ c.if-board-ge-VARIABLES.false
       c.put_var.ensures,
   refl,
 )

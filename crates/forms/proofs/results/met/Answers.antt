@@ -36,42 +36,42 @@ pub slice_bounds-reference-start : goal.slice_bounds-reference-start
 slice_bounds-reference-start c = ref_high c.requires.takes_result c.place-at.ensures
 
 pub reference-requires-clause-reads : goal.reference-requires-clause-reads
-reference-requires-clause-reads c = rw c.source_of.ensures (ref_given c.requires.takes_result c.place-at.ensures)
+reference-requires-clause-reads c = rw c.source_of-source.ensures (ref_given c.requires.takes_result c.place-at.ensures)
 
 pub returns-in_err-found-clause-met_as : goal.returns-in_err-found-clause-met_as
 returns-in_err-found-clause-met_as c = λ g.
-    let r = rw c.source_of.ensures at c.in_err-found.ensures.referred_as in
+    let r = rw c.source_of-source.ensures at c.in_err-found.ensures.referred_as in
     rw (handed c.from_residual.result c.from_residual.ensures) (ref_stops g c.place-at.ensures (goal_open g c.nth.ensures c.in-Atom.is c.atom_end-end.ensures c.goal_named.ensures c.in-Some.is c.is_taken.ensures c.if-is_taken.false) r)
 
 pub covers-requires : goal.covers-requires
 covers-requires c =
-    let r = rw c.source_of.ensures at c.in_ok-found.ensures.referred_as in
-    ref_covers c.requires.takes_result c.place-at.ensures (goal_open c.requires.takes_result c.nth.ensures c.in-Atom.is c.atom_end-end.ensures c.goal_named.ensures c.in-Some.is c.is_taken.ensures c.if-is_taken.false) r
+    let r = rw c.source_of-source.ensures at c.in_ok-found.ensures.referred_as in
+    rw (c.facts-facts.ensures, c.source_of-source.ensures) (ref_covers c.requires.takes_result c.place-at.ensures (goal_open c.requires.takes_result c.nth.ensures c.in-Atom.is c.atom_end-end.ensures c.goal_named.ensures c.in-Some.is c.is_taken.ensures c.if-is_taken.false) r)
 
 pub returns-then-not-covers-clause-met_as : goal.returns-then-not-covers-clause-met_as
 returns-then-not-covers-clause-met_as c = λ g.
-    let r = rw c.source_of.ensures at c.in_ok-found.ensures.referred_as in
-    not_covered g c.place-at.ensures (goal_open g c.nth.ensures c.in-Atom.is c.atom_end-end.ensures c.goal_named.ensures c.in-Some.is c.is_taken.ensures c.if-is_taken.false) r c.if-found.true c.covers.ensures (ap not c.if-not-covers.true)
+    let r = rw c.source_of-source.ensures at c.in_ok-found.ensures.referred_as in
+    not_covered g c.place-at.ensures (goal_open g c.nth.ensures c.in-Atom.is c.atom_end-end.ensures c.goal_named.ensures c.in-Some.is c.is_taken.ensures c.if-is_taken.false) r c.if-found.true (rw (c.facts-facts.ensures, c.source_of-source.ensures) at c.covers.ensures) (ap not c.if-not-covers.true)
 
 pub goal_judgment-requires : goal.goal_judgment-requires
 goal_judgment-requires c = goal_asks c.requires.takes_result c.nth.ensures c.in-Atom.is c.atom_end-end.ensures c.goal_named.ensures c.in-Some.is
 
 pub returns-then-found-goal_judgment-clause-met_as : goal.returns-then-found-goal_judgment-clause-met_as
 returns-then-found-goal_judgment-clause-met_as c = λ g.
-    let r = rw c.source_of.ensures at c.in_ok-found.ensures.referred_as in
+    let r = rw c.source_of-source.ensures at c.in_ok-found.ensures.referred_as in
     let o = goal_open g c.nth.ensures c.in-Atom.is c.atom_end-end.ensures c.goal_named.ensures c.in-Some.is c.is_taken.ensures c.if-is_taken.false in
     other_judgment_lem g c.place-at.ensures o r
     (elim c.else-found.branch [
-      | else-found-via-then-found+else-not-covers w ↦ covered g c.place-at.ensures o r w.if-found.true w.covers.ensures (ap not w.if-not-covers.false)
+      | else-found-via-then-found+else-not-covers w ↦ covered g c.place-at.ensures o r w.if-found.true (rw (c.facts-facts.ensures, c.source_of-source.ensures) at w.covers.ensures) (ap not w.if-not-covers.false)
       | else-found-via-else-found w ↦ instance_listed g c.place-at.ensures o r w.if-found.false
     ]) c.goal_judgment.ensures c.if-found-goal_judgment.true
 
 pub returns-clause-met_as : goal.returns-clause-met_as
 returns-clause-met_as c = λ g.
-    let r = rw c.source_of.ensures at c.in_ok-found.ensures.referred_as in
+    let r = rw c.source_of-source.ensures at c.in_ok-found.ensures.referred_as in
     let o = goal_open g c.nth.ensures c.in-Atom.is c.atom_end-end.ensures c.goal_named.ensures c.in-Some.is c.is_taken.ensures c.if-is_taken.false in
     result_comes g c.place-at.ensures o r
     (elim c.else-found.branch [
-      | else-found-via-then-found+else-not-covers w ↦ covered g c.place-at.ensures o r w.if-found.true w.covers.ensures (ap not w.if-not-covers.false)
+      | else-found-via-then-found+else-not-covers w ↦ covered g c.place-at.ensures o r w.if-found.true (rw (c.facts-facts.ensures, c.source_of-source.ensures) at w.covers.ensures) (ap not w.if-not-covers.false)
       | else-found-via-else-found w ↦ instance_listed g c.place-at.ensures o r w.if-found.false
     ]) c.goal_judgment.ensures c.if-found-goal_judgment.false
