@@ -8,9 +8,8 @@ ghost use Rattle.state.specs.Rows.{SomeVars};
 ghost use Rattle.reading.specs.Items.{FirstItem, index_in, variable_in};
 
 use crate::reader::Reader;
-use sexp::items::Item;
+use sexp::items;
 use sexp::names::index_of;
-use sexp::{items, lex};
 use state::vars::var_named;
 
 // The index that the first item spells.
@@ -18,11 +17,8 @@ pub fn index(text: &[u8], cells: &[u32]) -> Option<usize>
     requires { FirstItem text.now cells.now }
     ensures { (x : Sexp) (ys : Sexps) → Holds text.now cells.now (cons x ys) → result ≡ index_in x }
 {
-    let Item::Atom(start) = items::item_at(cells, 0) else {
-        return None;
-    };
-    let end = lex::atom_end(text, start);
-    index_of(&text[start..end])
+    let name = items::head(text, cells)?;
+    index_of(name)
 }
 
 impl Reader<'_> {
@@ -32,11 +28,7 @@ impl Reader<'_> {
         ensures { (vs : List Var) (x : Sexp) (ys : Sexps) → VarsHeld self.now.goals.now self.now.text.now self.now.vars.now self.now.n.vars vs →
             Holds self.now.text.now cells.now (cons x ys) → result ≡ variable_in vs x }
     {
-        let Item::Atom(start) = items::item_at(cells, 0) else {
-            return None;
-        };
-        let end = lex::atom_end(self.text, start);
-        let name = &self.text[start..end];
+        let name = items::head(self.text, cells)?;
         var_named(self.goals, self.text, self.vars, self.n.vars, name)
     }
 }

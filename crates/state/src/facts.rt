@@ -94,7 +94,7 @@ pub fn join_footing(footings: &[u64], i: usize, set: &mut [u64])
     union_into(set, &footings[from..end]);
 }
 
-// The row of fact i.
+// The row of fact i. Its parameters are the row's cells: a struct of them would be made for a call and taken apart again.
 fn put_row(
     facts: &mut [u32],
     i: usize,

@@ -1,18 +1,12 @@
-use native.Mathlib.Omega.{arith}
-use Rattle.reading.proofs.Atoms.{item_atom_lem, item_list, first_there, first_inside, first_high, no_index, index_spelt}
+use Rattle.rules.specs.Sexp.{cons}
+use Rattle.reading.proofs.Atoms.{no_index, index_spelt}
 use Rattle.reading.proofs.names.index.Goals as goal
 
-pub item_at-requires : goal.item_at-requires
-item_at-requires c = first_there c.requires
+pub head-requires : goal.head-requires
+head-requires c = (cons c.requires.x c.requires.ys, c.requires.holds)
 
-pub returns-in_default : goal.returns-in_default
-returns-in_default c = λ x ys h. no_index x (item_list h c.item_at.ensures c.in_default.is)
-
-pub atom_end-end-requires : goal.atom_end-end-requires
-atom_end-end-requires c = omega (arith, first_inside c.requires c.item_at.ensures c.in-Atom.is)
-
-pub slice_bounds-index_of-end : goal.slice_bounds-index_of-end
-slice_bounds-index_of-end c = first_high c.requires _ c.item_at.ensures c.in-Atom.is c.atom_end-end.ensures
+pub returns-in_err-name : goal.returns-in_err-name
+returns-in_err-name c = λ x ys h. rw c.from_residual.ensures (no_index x ys (c.in_err-name.ensures (cons x ys) h))
 
 pub returns : goal.returns
-returns c = λ x ys h. index_spelt _ (item_atom_lem h c.item_at.ensures c.in-Atom.is) c.atom_end-end.ensures c.index_of.ensures
+returns c = λ x ys h. index_spelt x ys (c.in_ok-name.ensures (cons x ys) h) c.index_of.ensures
