@@ -1,5 +1,8 @@
 // Variables of terms and facts, as sets, and question 39: what is used must be in the conclusion or free in the hypotheses. Over all terms of one
 // question a shared subterm is visited once; only a hypothesis that generalises variables is visited by itself.
+//
+// The terms that were visited (`seen`) and the set are lent as two: whoever asks keeps the set and hands it on, and drops the other. In a struct of
+// both each join, difference and search of sets would reach for its half.
 ghost use Rattle.std.specs.Prelude.{◌≡◌, [], ◌∷◌, ◌<◌, length};
 ghost use Rattle.rules.specs.Limits.{VARIABLEWORDS, FACTWORDS, TERMWORDS};
 ghost use Rattle.rules.specs.Find.{union, minus, rising, least};

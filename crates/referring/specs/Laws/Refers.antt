@@ -119,7 +119,7 @@ module _ {K : Names} {facts footings lists : List ℕ} {n : Sizes} {I W : List �
 
 -- A fact that is named ------------------------------------------------------------------------------------------------------------------
 
-no_entry : {A : Type 0} (xs : List A) (i : ℕ) → length xs ≤ i → entry xs i ≡ nothing
+pub no_entry : {A : Type 0} (xs : List A) (i : ℕ) → length xs ≤ i → entry xs i ≡ nothing
 unfolding entry
 no_entry [] i l = refl
 no_entry (x ∷ xs) zero l = absurd (omega arith)
