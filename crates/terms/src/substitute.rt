@@ -12,6 +12,8 @@ use questions::Row;
 
 // The term `id` under the substitution `map`. `memo` is scratch: zero before and after; arguments have smaller numbers than their term,
 // so that no cell behind `id` is used.
+// A struct that states its zeros was tried and is no plainer: it would ask for TERMS cells where this takes a memo of any length, and whoever
+// hands it on, loops too, would say that its reference is the one lent, in the place of saying that it is zero.
 pub fn substitute(
     store: &mut Store<'_>,
     map: &[u32],
