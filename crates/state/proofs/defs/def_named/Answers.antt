@@ -37,7 +37,7 @@ bounds-defs-i c = def_inside c.args.name.now _
     c.in-Some.is
 
 pub overflow_cast-result : goal.overflow_cast-result
-overflow_cast-result c = omega (arith, c.shared_slice_known-4-1.given (3 * c.in-Some.i + 2))
+overflow_cast-result c = omega (arith, c.type_inv.defs (3 * c.in-Some.i + 2))
 
 pub returns : goal.returns
 returns c = λ M ds h. def_here h c.args.name.now

@@ -11,7 +11,7 @@ bounds-vars-at c = omega (
 )
 
 pub overflow_cast-start : goal.overflow_cast-start
-overflow_cast-start c = omega (arith, c.shared_slice_known-5-1.given (4 * c.args.i + 2))
+overflow_cast-start c = omega (arith, c.type_inv.vars (4 * c.args.i + 2))
 
 pub bounds-vars-at-2 : goal.bounds-vars-at-2
 bounds-vars-at-2 c = omega (
@@ -20,7 +20,7 @@ bounds-vars-at-2 c = omega (
 )
 
 pub overflow_cast-end : goal.overflow_cast-end
-overflow_cast-end c = omega (arith, c.shared_slice_known-6-1.given (4 * c.args.i + 3))
+overflow_cast-end c = omega (arith, c.type_inv.vars (4 * c.args.i + 3))
 
 pub bounds-vars-at-3 : goal.bounds-vars-at-3
 bounds-vars-at-3 c = omega (
