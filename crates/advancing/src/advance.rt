@@ -35,21 +35,15 @@ fn fact_in(facts: &[u32], footings: &[u64], i: usize) -> Fact
     requires { (length facts.now ≡ 6 * FACTS) × (length footings.now ≡ 4 * FACTS) × (i < FACTS) }
     ensures { result ≡ record_at facts.now footings.now i }
 {
-    let at = 6 * i;
-    let word = 4 * i;
-    let footing: [u64; 4] = [
-        footings[word],
-        footings[word + 1],
-        footings[word + 2],
-        footings[word + 3],
-    ];
+    let [judgment, assumed, first, hyps, premises, general] = facts.as_chunks().0[i];
+    let footing = footings.as_chunks().0[i];
     Fact {
-        judgment: facts[at],
-        assumed: facts[at + 1],
-        first: facts[at + 2],
-        hyps: facts[at + 3],
-        premises: facts[at + 4],
-        general: facts[at + 5],
+        judgment,
+        assumed,
+        first,
+        hyps,
+        premises,
+        general,
         footing,
     }
 }

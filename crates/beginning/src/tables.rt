@@ -10,6 +10,7 @@ ghost use Rattle.beginning.specs.Opened.{Lending, Cleared};
 
 use cells::clear;
 use kernel::tables::{Counts, Tables};
+use sexp::lex;
 use state::board::Board;
 use state::sizes::Sizes;
 use terms::store::{Mark, Store};
@@ -38,7 +39,7 @@ pub fn fits(lengths: &[usize; 14]) -> bool
     ensures { Decides result (FitsAll lengths.now) }
 {
     for (k, least) in NAMED.iter().enumerate() {
-        if lengths[k] < *least {
+        if !lex::fits(lengths[k], *least) {
             return false;
         }
     }

@@ -107,6 +107,7 @@ pub fn finish(
         Finishes g.theory g.goals g.proof result missing.new }
     ensures index_after { store.new.index.now ≡ settled store.old.index.now }
     ensures words_after { store.new.words.now ≡ store.old.words.now }
+    ensures mark_after { store.new.mark ≡ store.old.mark }
 {
     let n = board.n;
     let open_goals = count_open(board.rows, &store.terms(), n.goals);

@@ -34,12 +34,9 @@ fn put_foot(feet: &mut [u64], i: usize, f: Fact)
     requires { 4 * i + 4 ≤ length feet.old }
     ensures { feet.new ≡ sets feet.old (4 * i) (fact_foot f) }
 {
-    let words = f.footing;
     let at = 4 * i;
-    feet[at] = words[0];
-    feet[at + 1] = words[1];
-    feet[at + 2] = words[2];
-    feet[at + 3] = words[3];
+    let end = at + 4;
+    feet[at..end].copy_from_slice(&f.footing);
 }
 
 // Rows and footings of the records.

@@ -96,7 +96,7 @@ goal_many xs t e = goal_least (item xs 0) (count xs) t e
 
 -- What an answer says --------------------------------------------------------------------------------------------------------------
 
-abbrev tag_told : TagAnswer → Tag
+abbrev pub tag_told : TagAnswer → Tag
 tag_told Var = a_var
 tag_told Def = a_def
 tag_told Step = a_step

@@ -8,6 +8,8 @@ use Rattle.rules.specs.Forms.{plus}
 use Rattle.rules.proofs.Laws.Bounded.{BoundedState}
 use Rattle.questions.specs.declared.Question.{Question}
 use Rattle.sexp.specs.Items.{Holds}
+use Rattle.sexp.specs.declared.tags.Tag.{Tag}
+use Rattle.sexp.specs.declared.tags.Tag.TheVariants.{Var, Def, Step, Hyp, RuleHyp, Induct, InductWith, Apply, Invert, Outcome}
 use Rattle.terms.specs.declared.store.Store.{Store}
 use Rattle.state.specs.declared.board.Given.{Given}
 use Rattle.state.specs.declared.board.Board.{Board}
@@ -15,6 +17,7 @@ use Rattle.counts.specs.declared.Counts.{Counts}
 use Rattle.counts.specs.Counted.{counts_of}
 use Rattle.forms.specs.Boards.{StandsIn}
 use Rattle.forms.specs.Moved.{MovesIn, LeftIn}
+use Rattle.forms.specs.Next.{NextAs}
 
 -- Given ----------------------------------------------------------------------------------------------------------------------------
 
@@ -33,6 +36,19 @@ pub record GoalItemsIn (g : Given) (b : Board) (s : Store) (cells : List ℕ) : 
   pub text : g.text.now ≡ g.goals.now
 
 -- Answers --------------------------------------------------------------------------------------------------------------------------
+
+-- an index that is the next, where a form of this tag gives one; K: what the definition answers to it
+abbrev pub NumberedAs : Tag → State → Out State (Unit {0}) → Result (Unit {0}) Question → Type 0
+NumberedAs Var S K r = r ≡ Ok tt
+NumberedAs Def S K r = r ≡ Ok tt
+NumberedAs Step S K r = NextAs S K r
+NumberedAs Hyp S K r = NextAs S K r
+NumberedAs RuleHyp S K r = NextAs S K r
+NumberedAs Induct S K r = NextAs S K r
+NumberedAs InductWith S K r = NextAs S K r
+NumberedAs Apply S K r = NextAs S K r
+NumberedAs Invert S K r = NextAs S K r
+NumberedAs Outcome S K r = r ≡ Ok tt
 
 -- what a hypothesis counts
 abbrev pub one_hypothesis : Counts

@@ -2,13 +2,14 @@
 // stood before.
 ghost use Rattle.std.specs.Prelude.{◌≡◌};
 ghost use Rattle.rules.specs.Tags.{goal_form, proof_tag};
-ghost use Rattle.rules.specs.Forms.{goal, take_goal, perform, take_form};
+ghost use Rattle.rules.specs.Forms.{next, goal, take_goal, perform, take_form};
 ghost use Rattle.terms.specs.Lent.{SameTables};
 ghost use Rattle.forms.specs.Boards.{SameBoard};
+ghost use Rattle.forms.specs.Next.{OwnIndex};
 ghost use Rattle.entering.specs.Entered.{Spare};
 ghost use Rattle.taking.specs.Tagged.{tagged, chosen};
 ghost use Rattle.taking.specs.Taking.{TakesFormIn, TakesGoalIn, TakenIn, GoalTakenIn};
-ghost use Rattle.taking.specs.Tried.{ItemsIn, GoalItemsIn, TriedIn, GoalTriedIn, one_hypothesis};
+ghost use Rattle.taking.specs.Tried.{ItemsIn, GoalItemsIn, TriedIn, GoalTriedIn, one_hypothesis, NumberedAs};
 
 use crate::tags::{tag_of, tag_of_goal};
 use counts::{Counts, no_counts};
@@ -23,6 +24,7 @@ use sexp::items;
 use sexp::items::Item;
 use sexp::tags::{GoalForm, Tag};
 use state::board::{Board, Given};
+use state::sizes::Sizes;
 use terms::store::Store;
 
 // What a hypothesis counts.
@@ -82,8 +84,19 @@ pub fn take_goal(
     }
 }
 
-// The form of the proof that has these items: what it counts. Those that add a fact stand behind the index that they give to it. Where it is refused,
-// the terms that it made are still there. `ids` and `memo` are scratch: zero before and after.
+// The index that a form gives to the fact that it adds must be the next; a form that adds none gives none.
+fn own_index(text: &[u8], cells: &[u32], tag: Tag, n: Sizes) -> Result<(), Question>
+    requires { OwnIndex text.now cells.now n }
+    ensures { (g : OwnIndex text.now cells.now n) → NumberedAs tag g.S (next g.xs g.S) result }
+{
+    match tag {
+        Tag::Var | Tag::Def | Tag::Outcome => Ok(()),
+        _ => is_next(text, cells, n),
+    }
+}
+
+// The form of the proof that has these items: what it counts. Where it is refused, the terms that it made are still there. `ids` and `memo` are scratch:
+// zero before and after.
 fn form_items(
     given: &Given<'_>,
     board: &mut Board<'_>,
@@ -101,49 +114,18 @@ fn form_items(
     let Some(tag) = tag_of(given.text, cells) else {
         return Err(Question::ProofForm);
     };
+    own_index(given.text, cells, tag, board.n)?;
     match tag {
-        Tag::Var => {
-            add_var(given, board, 3, cells)?;
-            Ok(no_counts())
-        }
-        Tag::Def => {
-            add_def(given, board, store, cells)?;
-            Ok(no_counts())
-        }
-        Tag::Step => {
-            is_next(given.text, cells, board.n)?;
-            add_derived(given, board, store, cells, Way::Step, memo, ids)
-        }
-        Tag::Hyp => {
-            is_next(given.text, cells, board.n)?;
-            add_hyp(given, board, store, cells)?;
-            Ok(one_hypothesis())
-        }
-        Tag::RuleHyp => {
-            is_next(given.text, cells, board.n)?;
-            add_rule_hyp(given, board, store, cells)?;
-            Ok(one_hypothesis())
-        }
-        Tag::Induct => {
-            is_next(given.text, cells, board.n)?;
-            add_derived(given, board, store, cells, Way::Induct, memo, ids)
-        }
-        Tag::InductWith => {
-            is_next(given.text, cells, board.n)?;
-            add_derived(given, board, store, cells, Way::InductWith, memo, ids)
-        }
-        Tag::Apply => {
-            is_next(given.text, cells, board.n)?;
-            add_derived(given, board, store, cells, Way::Apply, memo, ids)
-        }
-        Tag::Invert => {
-            is_next(given.text, cells, board.n)?;
-            add_invert(given, board, store, cells, memo, ids)
-        }
-        Tag::Outcome => {
-            result(given, board, store, cells, memo)?;
-            Ok(no_counts())
-        }
+        Tag::Var => add_var(given, board, 3, cells).and(Ok(no_counts())),
+        Tag::Def => add_def(given, board, store, cells).and(Ok(no_counts())),
+        Tag::Step => add_derived(given, board, store, cells, Way::Step, memo, ids),
+        Tag::Hyp => add_hyp(given, board, store, cells).and(Ok(one_hypothesis())),
+        Tag::RuleHyp => add_rule_hyp(given, board, store, cells).and(Ok(one_hypothesis())),
+        Tag::Induct => add_derived(given, board, store, cells, Way::Induct, memo, ids),
+        Tag::InductWith => add_derived(given, board, store, cells, Way::InductWith, memo, ids),
+        Tag::Apply => add_derived(given, board, store, cells, Way::Apply, memo, ids),
+        Tag::Invert => add_invert(given, board, store, cells, memo, ids),
+        Tag::Outcome => result(given, board, store, cells, memo).and(Ok(no_counts())),
     }
 }
 
