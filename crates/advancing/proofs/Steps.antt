@@ -1,7 +1,8 @@
 -- One form: what is asked, and what stands behind its end, behind a question and behind a form that is taken. Assumes nothing.
-use Rattle.std.specs.Prelude.{◌≡◌, List, ◌∷◌, ◌++◌, ℕ, ◌+◌, ◌-◌, ◌*◌, ◌<◌, ◌≤◌, ltb, length, get_or, take, drop, replicate, Option, Some as some, None as nothing, Result, Ok, Err}
+use Rattle.std.specs.Prelude.{◌≡◌, List, [], ◌∷◌, ◌++◌, ℕ, zero, suc, ◌+◌, ◌-◌, ◌*◌, ◌/◌, ◌<◌, ◌≤◌, ltb, length, get_or, take, drop, replicate, Option, Some as some, None as nothing, Result, Ok, Err}
+use Rattle.std.specs.Simd.{first_chunks}
 use Rattle.std.proofs.Common.{sym, ap, ◌∙◌, subst, arith, append-nil, length-append}
-use Rattle.std.proofs.lemmas.List.{length-replicate}
+use Rattle.std.proofs.lemmas.List.{length-replicate, drop-drop}
 use native.Mathlib.Numerals.{add-one}
 use borrow.Author.Tests.{lt-ltb, le-ltb}
 use lib.Seq.{drop-cons}
@@ -70,6 +71,38 @@ module _ (rows feet : List ℕ) (i : ℕ) where
 
   foot_is : 4 * i + 4 ≤ length feet → fact_foot (record_at rows feet i) ≡ take 4 (drop (4 * i) feet)
   foot_is h = sym (ap (take 4) (four_cells feet (4 * i) h))
+
+-- part i of a table that is cut into parts of n
+chunk_at : {X : Type 0} (n k : ℕ) (xs : List X) (i : ℕ) (d : List X) → i < k → get_or (first_chunks n k xs) i d ≡ take n (drop (n * i) xs)
+chunk_at n zero xs i d l = absurd (omega (arith, l))
+chunk_at n (suc k) xs zero d l = let e : n * 0 ≡ 0 = omega arith in ap (λ j. take n (drop j xs)) (sym e)
+chunk_at n (suc k) xs (suc i) d l =
+    let e : n + n * i ≡ n * suc i = omega arith in
+    chunk_at n k (drop n xs) i d (omega (arith, l)) ∙ ap (take n) (drop-drop (n * i) n xs ∙ ap (λ j. drop j xs) e)
+
+-- the record of the parts x, y
+abbrev pub record_of : List ℕ → List ℕ → Fact
+record_of x y =
+    record {
+      judgment = get_or x 0 0;
+      assumed = get_or x 1 0;
+      first = get_or x 2 0;
+      hyps = get_or x 3 0;
+      premises = get_or x 4 0;
+      general = get_or x 5 0;
+      footing = y;
+    }
+
+pub record_read : (rows feet : List ℕ) (i : ℕ) {x y : List (List ℕ)} → (length rows ≡ 6 * FACTS) × (length feet ≡ 4 * FACTS) × (i < FACTS) →
+    x ≡ first_chunks 6 (length rows / 6) rows → length x ≡ length rows / 6 → y ≡ first_chunks 4 (length feet / 4) feet → length y ≡ length feet / 4 →
+    record_of (get_or x i []) (get_or y i []) ≡ record_at rows feet i
+record_read rows feet i {x} {y} h a b c d =
+    let l : i < length rows / 6 = omega (arith, h.0, h.2) in
+    let m : i < length feet / 4 = omega (arith, h.1, h.2) in
+    let p : get_or x i [] ≡ take 6 (drop (6 * i) rows) = ap (λ z. get_or z i []) a ∙ chunk_at 6 (length rows / 6) rows i [] l in
+    let q : get_or y i [] ≡ take 4 (drop (4 * i) feet) = ap (λ z. get_or z i []) c ∙ chunk_at 4 (length feet / 4) feet i [] m in
+    (λ j. record_of (p j) (q j))
+    ∙ (λ j. record_of (take 6 (six_cells rows (6 * i) (omega arith) j)) (take 4 (four_cells feet (4 * i) (omega arith) j)))
 
 -- n facts before, k afterwards
 stored_is : (rows feet : List ℕ) (n k : ℕ) → length rows ≡ 6 * FACTS → length feet ≡ 4 * FACTS → k ≤ FACTS → OneMore n k →

@@ -35,8 +35,8 @@ fn fact_in(facts: &[u32], footings: &[u64], i: usize) -> Fact
     requires { (length facts.now ≡ 6 * FACTS) × (length footings.now ≡ 4 * FACTS) × (i < FACTS) }
     ensures { result ≡ record_at facts.now footings.now i }
 {
-    let [judgment, assumed, first, hyps, premises, general] = facts.as_chunks().0[i];
-    let footing = footings.as_chunks().0[i];
+    let [judgment, assumed, first, hyps, premises, general] = facts.as_chunks::<6>().0[i];
+    let footing = footings.as_chunks::<4>().0[i];
     Fact {
         judgment,
         assumed,
