@@ -18,7 +18,7 @@ use Rattle.kernel.specs.Parsed.{Formed}
 use Rattle.terms.specs.declared.store.Mark.{Mark}
 use Rattle.terms.specs.declared.store.Store.{Store}
 use Rattle.state.specs.declared.sizes.Sizes.{Sizes}
-use Rattle.state.specs.Stands.{Stands}
+use Rattle.state.specs.Stands.{Stands, tables_of}
 use Rattle.state.specs.declared.board.Given.{Given}
 use Rattle.state.specs.declared.board.Board.{Board}
 use Rattle.state.specs.RowTables.{tabled_long}
@@ -26,10 +26,10 @@ use Rattle.state.specs.FactLaws.{facts_tabled, footings_tabled}
 use Rattle.counts.specs.declared.Counts.{Counts as Counted}
 use Rattle.counts.specs.Counted.{counts_of}
 use Rattle.counts.specs.Sum.{sum}
-use Rattle.forms.specs.Boards.{texts_of, theory_of, tables_of, StandsIn}
+use Rattle.forms.specs.Boards.{texts_of, theory_of, StandsIn}
 use Rattle.taking.specs.Taking.{TakesFormIn, TakenIn}
 use Rattle.facts.specs.declared.Fact.{Fact}
-use Rattle.running.specs.Course.{Over}
+use Rattle.running.specs.Course.{facts_room, Over}
 use Rattle.running.specs.Lent.{fact_row, fact_foot}
 use Rattle.running.specs.Between.{Few, StoredAs}
 use Rattle.advancing.specs.Handed.{record_at, stored_at}
@@ -135,9 +135,6 @@ few_more m forms k c h =
 -- What is asked ----------------------------------------------------------------------------------------------------------------------
 
 module _ (g : Given) (b : Board) (s : Store) {S : State} (h : StandsIn g b s S) where
-  pub facts_few : b.n.facts ≤ FACTS
-  facts_few = omega (arith, h.recorded.many, h.recorded.rows.row12)
-
   pub rows_long : length b.facts.now ≡ 6 * FACTS
   rows_long = tabled_long (facts_tabled h.recorded)
 
@@ -222,7 +219,7 @@ module _ {g : Given} {b : Board} {s : Store} {at : ℕ} (r : Ready g b s at) {ce
         -- it is taken
         module _ (d : Counted) (a : TakenIn g b c s t r.S (take_form form.form r.S) (Ok d)) where
           pub stored_asks : (length c.facts.now ≡ 6 * FACTS) × (length c.footings.now ≡ 4 * FACTS) × (c.n.facts ≤ FACTS)
-          stored_asks = (rows_long g c t a.stands, feet_long g c t a.stands, facts_few g c t a.stands)
+          stored_asks = (rows_long g c t a.stands, feet_long g c t a.stands, facts_room a.stands)
 
           pub taken_stay : Stay b c
           taken_stay =

@@ -8,11 +8,12 @@ use Rattle.questions.specs.declared.Text.TheVariants.{Proof}
 use Rattle.terms.specs.declared.store.Store.{Store}
 use Rattle.state.specs.declared.board.Given.{Given}
 use Rattle.state.specs.declared.board.Board.{Board}
+use Rattle.state.specs.Stands.{tables_of}
 use Rattle.counts.specs.declared.Counts.{Counts}
 use Rattle.counts.specs.Counted.{counts_of}
 use Rattle.counts.specs.Sum.{sum}
 use Rattle.induction.specs.Inducing.{IDS}
-use Rattle.forms.specs.Boards.{theory_of, tables_of}
+use Rattle.forms.specs.Boards.{theory_of}
 use Rattle.running.specs.declared.stopped.Stopped.{Stopped}
 use Rattle.running.specs.Course.{Underway, Over}
 use Rattle.running.specs.Between.{Few, StoredAs}

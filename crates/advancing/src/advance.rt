@@ -6,10 +6,11 @@ ghost use Rattle.forms.specs.Boards.{SameBoard};
 ghost use Rattle.advancing.specs.Handed.{record_at, stored_at};
 ghost use Rattle.advancing.specs.Stepped.{IdleIn, SameScratch, Ready, AdvancedAs, Stay};
 
+use cells::clear;
 use counts::Counts;
 use facts::Fact;
 use questions::Question;
-use sexp::sexp::{clear, read_form};
+use sexp::sexp::read_form;
 use state::board::{Board, Given};
 use taking::take::take_form;
 use terms::store::Store;
@@ -83,7 +84,7 @@ pub fn next_form(
     };
     let n = board.n.facts;
     let taken = take_form(given, board, store, &cells[..form.cells], ids, memo);
-    clear(cells, form.cells);
+    clear(&mut cells[..form.cells]);
     let counts = taken?;
     Ok(Some(Advance {
         end: form.end,

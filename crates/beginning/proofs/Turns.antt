@@ -18,7 +18,8 @@ use Rattle.kernel.specs.Parsed.{Formed}
 use Rattle.terms.specs.declared.store.Store.{Store}
 use Rattle.state.specs.declared.board.Given.{Given}
 use Rattle.state.specs.declared.board.Board.{Board as Lent}
-use Rattle.forms.specs.Boards.{texts_of, theory_of, tables_of, StandsIn}
+use Rattle.state.specs.Stands.{tables_of}
+use Rattle.forms.specs.Boards.{texts_of, theory_of, StandsIn}
 use Rattle.taking.specs.Taking.{TakesGoalIn, GoalTakenIn}
 use Rattle.beginning.specs.Posed.{theory_in, Posing, Fresh, Posed}
 use Rattle.beginning.proofs.Posing.{fresh_first, fresh_on}

@@ -2,7 +2,8 @@
 ghost use Rattle.std.specs.Prelude.{◌≡◌};
 ghost use Rattle.kernel.specs.Tables.{lists_of, SameTables as SameTheory};
 ghost use Rattle.terms.specs.Lent.{SameTables};
-ghost use Rattle.forms.specs.Boards.{tables_of, SameBoard};
+ghost use Rattle.state.specs.Stands.{tables_of};
+ghost use Rattle.forms.specs.Boards.{SameBoard};
 ghost use Rattle.beginning.specs.Given.{given_of};
 ghost use Rattle.beginning.specs.Opened.{Opening, Opened};
 

@@ -5,11 +5,13 @@ ghost use Rattle.rules.specs.State.{begin};
 ghost use Rattle.rules.specs.Forms.{take_goal};
 ghost use Rattle.rules.specs.Loop.{through, whole};
 ghost use Rattle.terms.specs.Lent.{SameTables};
-ghost use Rattle.forms.specs.Boards.{texts_of, theory_of, tables_of, SameBoard};
+ghost use Rattle.state.specs.Stands.{tables_of};
+ghost use Rattle.forms.specs.Boards.{texts_of, theory_of, SameBoard};
 ghost use Rattle.beginning.specs.Posed.{theory_in, Posing, behind, Posed};
 
+use cells::clear;
 use questions::{Question, Refused};
-use sexp::sexp::{clear, read_all, read_form};
+use sexp::sexp::{read_all, read_form};
 use state::board::{Board, Given};
 use taking::take::take_goal;
 use terms::store::Store;
@@ -36,7 +38,8 @@ fn take_goals(
 {
     let mut forms = 0;
     let mut at = 0;
-    // from form to form, which is no count
+    // From form to form, which is no count. A form is read into lent cells and taken into lent tables: a walker that is handed what to do with it would be
+    // handed all of these and their contracts with it, and this loop, which says no more, would stand in it.
     loop {
         let form = match read_form(given.goals, at, cells) {
             Ok(Some(form)) => form,
@@ -45,7 +48,7 @@ fn take_goals(
             Err(question) => return Err(left(question, forms)),
         };
         let taken = take_goal(given, board, store, &cells[..form.cells]);
-        clear(cells, form.cells);
+        clear(&mut cells[..form.cells]);
         if let Err(question) = taken {
             return Err(left(question, forms));
         }

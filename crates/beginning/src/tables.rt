@@ -4,7 +4,8 @@ ghost use Rattle.rules.specs.Theory.{no_theory};
 ghost use Rattle.kernel.specs.Parsed.{Exact, theory_tables};
 ghost use Rattle.kernel.specs.Tables.{lists_of, SameTables as SameTheory};
 ghost use Rattle.terms.specs.Lent.{SameTables};
-ghost use Rattle.forms.specs.Boards.{tables_of, SameBoard};
+ghost use Rattle.state.specs.Stands.{tables_of};
+ghost use Rattle.forms.specs.Boards.{SameBoard};
 ghost use Rattle.beginning.specs.Lengths.{FitsAll, Decides, theory_sizes};
 ghost use Rattle.beginning.specs.Opened.{Lending, Cleared};
 

@@ -7,7 +7,7 @@ ghost use Rattle.forms.specs.Boards.{records_of, SameBoard, OnlyFacts, OnlyFacts
 ghost use Rattle.entering.specs.Entered.{way_counts, Spare, FindsBy, FoundBy, AddsBy, AddedBy, EnterAs, Words};
 ghost use Rattle.entering.specs.Inverted.{AddsInversionIn, InvertedBy};
 
-use counts::{Counts, no_counts};
+use counts::Counts;
 use derivation::apply::apply;
 use derivation::step::step;
 use induction::induct::{induct, induct_with};
@@ -38,12 +38,12 @@ impl Way {
         match self {
             Way::Step => Counts {
                 instances,
-                ..no_counts()
+                ..Counts::NONE
             },
-            Way::Apply => no_counts(),
+            Way::Apply => Counts::NONE,
             Way::Induct | Way::InductWith => Counts {
                 inductions: 1,
-                ..no_counts()
+                ..Counts::NONE
             },
         }
     }
@@ -161,6 +161,6 @@ pub fn add_invert(
     board.n.vars = inverted.vars;
     Ok(Counts {
         inversions: 1,
-        ..no_counts()
+        ..Counts::NONE
     })
 }

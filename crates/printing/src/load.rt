@@ -102,36 +102,24 @@ fn has_argument<R: Env>(rt: &R, i: usize) -> bool {
     !matches!(rt.arg(i, &mut first), Err(FillError::NotPresent))
 }
 
-fn load_arguments<R: Files + Env + AllocGlobal>(rt: &R) -> Result<Texts, LoadError>
-    ensures { IfOk result AreShort }
-{
-    Ok(Texts {
-        theory: read_named(rt, argument(rt, 1)?)?,
-        goals: read_named(rt, argument(rt, 2)?)?,
-        proof: read_named(rt, argument(rt, 3)?)?,
-    })
-}
-
-// The files called theory, goals and proof.
-fn load_folder<R: Files + AllocGlobal>(rt: &R) -> Result<Texts, LoadError>
-    ensures { IfOk result AreShort }
-{
-    Ok(Texts {
-        theory: read_named(rt, Vec::from_slice(rt.alloc(), b"theory")?)?,
-        goals: read_named(rt, Vec::from_slice(rt.alloc(), b"goals")?)?,
-        proof: read_named(rt, Vec::from_slice(rt.alloc(), b"proof")?)?,
-    })
+// The name of a file: what argument i says, or where there are no arguments its own.
+fn file_name<R: Env + AllocGlobal>(rt: &R, i: usize, own: &[u8]) -> Result<Vec<u8>, LoadError> {
+    if has_argument(rt, 1) {
+        return argument(rt, i);
+    }
+    Ok(Vec::from_slice(rt.alloc(), own)?)
 }
 
 // The three files that the arguments name; without arguments those called theory, goals and proof.
 pub fn load_texts<R: Files + Env + AllocGlobal>(rt: &R) -> Result<Texts, LoadError>
     ensures { IfOk result AreShort }
 {
-    if !has_argument(rt, 1) {
-        return load_folder(rt);
-    }
-    if !has_argument(rt, 3) || has_argument(rt, 4) {
+    if has_argument(rt, 1) && (!has_argument(rt, 3) || has_argument(rt, 4)) {
         return Err(LoadError::Usage);
     }
-    load_arguments(rt)
+    Ok(Texts {
+        theory: read_named(rt, file_name(rt, 1, b"theory")?)?,
+        goals: read_named(rt, file_name(rt, 2, b"goals")?)?,
+        proof: read_named(rt, file_name(rt, 3, b"proof")?)?,
+    })
 }

@@ -3,6 +3,7 @@ ghost use Rattle.std.specs.Prelude.{Some};
 ghost use Rattle.printing.specs.Names.{name_text};
 
 use crate::checked::Checked;
+use questions::Text;
 use rules::SYMBOLS;
 use std::fmt;
 
@@ -57,11 +58,14 @@ impl<'a> Checked<'a> {
 
     // The text in which a variable's name stands.
     fn text(&self, number: u32) -> &'a [u8] {
-        match number {
-            2 => self.goals,
-            3 => self.proof,
-            _ => self.theory,
+        let number = number as usize;
+        if number == Text::Goals.number() {
+            return self.goals;
         }
+        if number == Text::Proof.number() {
+            return self.proof;
+        }
+        self.theory
     }
 
     pub(crate) fn is_predicate(&self, head: usize) -> bool {

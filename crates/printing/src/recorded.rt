@@ -3,6 +3,7 @@ ghost use Rattle.std.specs.Prelude.{◌≤◌};
 ghost use Rattle.rules.specs.Limits.{FACTS};
 
 use crate::checked::Checked;
+use questions::Text;
 use rules::FACTS;
 
 impl Checked<'_> {
@@ -11,10 +12,10 @@ impl Checked<'_> {
     {
         let facts = match self.answer {
             Ok(r) => r.steps,
-            Err(r) if r.text == 3 => {
-                let vars = self.vars.iter().filter(|row| row[1] == 3).count();
+            Err(r) if r.text == Text::Proof.number() => {
+                let vars = self.vars.iter().filter(|row| row[1] as usize == Text::Proof.number()).count();
                 let defs = self.defs.iter().filter(|row| row[1] != 0).count();
-                let taken = self.rows.iter().filter(|row| row[5] == 1).count();
+                let taken = self.rows.iter().filter(|row| row[5] != 0).count();
                 r.form
                     .saturating_sub(vars)
                     .saturating_sub(defs)

@@ -7,7 +7,7 @@ use Rattle.rules.specs.StateTables.{missing_of}
 use Rattle.rules.specs.TheoryTables.{filled}
 use Rattle.rules.specs.Laws.Theory.{all_map}
 use Rattle.terms.specs.declared.store.Mark.{Mark}
-use Rattle.terms.specs.Table.{made, INDEX}
+use Rattle.terms.specs.Table.{made}
 use Rattle.state.specs.Numbered.{sound_in}
 use Rattle.state.specs.declared.sizes.Sizes.{Sizes}
 use Rattle.state.specs.Stands.{Board}
@@ -21,9 +21,6 @@ module _ {e : Result ℕ Stopped} {c : Counts} {B : Board} {n : Sizes} {m : Mark
   abbrev pub goal_rows_given : GoalRows B.goals n.goals
   goal_rows_given =
       record { gs = g.S.goals; text = g.over.X.goals; trees = made B.index B.words m; held = g.over.stands.goals }
-
-  pub index_long : length B.index ≡ INDEX
-  index_long = g.over.stands.good.index
 
   abbrev pub open_rows_given : OpenRows B.goals B.index B.words m n.goals
   open_rows_given =

@@ -134,10 +134,6 @@ module _ {theory goals proof : List ℕ} (U : TheoryLists) (Z : Working) {rows f
   state_is : S ≡ (check theory goals proof).state
   state_is = sym (outcome_state e S) ∙ ap (λ O. O.state) o.is
 
-  -- no more facts than there are rows
-  pub facts_room : n.facts ≤ FACTS
-  facts_room = omega (arith, o.stands.recorded.many, o.stands.recorded.rows.row12)
-
   leaves : Leaves (board_front Z rows feet) S
   leaves = stands_leaves o.stands (words_are o.stands.good)
 

@@ -4,8 +4,6 @@ use Rattle.std.specs.Prelude.{◌≡◌, ℕ, ◌*◌, ◌≤◌, List, [], ◌�
 use Rattle.rules.specs.Limits.{SORTS, SYMBOLS, ARGUMENTS, RULES, RULEVARS, PATTERNS, VARIABLES, TERMS, WORDS, DEFS, GOALS, ENTRIES}
 use Rattle.rules.specs.TheoryTables.{rows as rows_of}
 use Rattle.kernel.specs.Parsed.{TheoryLists, theory_lists}
-use Rattle.terms.specs.declared.store.Store.{Store}
-use Rattle.state.specs.declared.board.Board.{Board as Lent}
 use Rattle.state.specs.Stands.{Board, board}
 use Rattle.facts.specs.declared.Fact.{Fact}
 
@@ -31,10 +29,6 @@ pub record LongWorking (W : Working) : Type 0 where
   pub defs : 3 * DEFS ≤ length W.defs
   pub goals : 6 * GOALS ≤ length W.goals
   pub lists : ENTRIES ≤ length W.lists
-
--- all that a form changes, as it is lent
-abbrev pub board_of : Lent → Store → Board
-board_of b s = board b.vars.now s.index.now s.words.now b.defs.now b.rows.now b.facts.now b.footings.now b.lists.now
 
 -- The named parts ------------------------------------------------------------------------------------------------------------------
 

@@ -1,12 +1,12 @@
 // The end of a check: question 53 with its list, or the report. The store's look-up is settled, so that its table holds nothing but places.
-ghost use Rattle.std.specs.Prelude.{◌≡◌, true, false, List, ℕ, length, replicate};
+ghost use Rattle.std.specs.Prelude.{◌≡◌, length, replicate};
 ghost use Rattle.rules.specs.Limits.{GOALS};
 ghost use Rattle.rules.specs.Check.{count_open};
 ghost use Rattle.rules.specs.TheoryTables.{filled};
 ghost use Rattle.terms.specs.Table.{settled};
 ghost use Rattle.terms.specs.Lent.{SameTables};
+ghost use Rattle.state.specs.Stands.{tables_of};
 ghost use Rattle.running.specs.Stopped.{refusal_of};
-ghost use Rattle.running.specs.Lent.{board_of};
 ghost use Rattle.running.specs.Finished.{unproved, GoalRows, OpenRowsIn, FinishGiven, Finishes, ListedFor};
 
 use crate::stopped::Stopped;
@@ -101,9 +101,9 @@ pub fn finish(
     store: &mut Store<'_>,
     missing: &mut [u32],
 ) -> Result<Report, Refusal>
-    requires { FinishGiven outcome counts (board_of board.now store.old) board.now.n store.old.mark × (length missing.old ≡ GOALS) }
+    requires { FinishGiven outcome counts (tables_of board.now store.old) board.now.n store.old.mark × (length missing.old ≡ GOALS) }
     ensures same_tables { SameTables store.old store.new }
-    ensures finishes { (g : FinishGiven outcome counts (board_of board.now store.old) board.now.n store.old.mark) →
+    ensures finishes { (g : FinishGiven outcome counts (tables_of board.now store.old) board.now.n store.old.mark) →
         Finishes g.theory g.goals g.proof result missing.new }
     ensures index_after { store.new.index.now ≡ settled store.old.index.now }
     ensures words_after { store.new.words.now ≡ store.old.words.now }

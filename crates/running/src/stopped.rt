@@ -1,6 +1,4 @@
 // Where a check stops: a question that is left in one of its texts.
-ghost use Rattle.std.specs.Prelude.{◌≡◌};
-
 use questions::{Refused, Text};
 
 // The text, and the question that is left in it behind so many forms.

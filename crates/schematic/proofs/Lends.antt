@@ -27,36 +27,6 @@ module _ {n : ℕ} (y l : List ℕ) (e : length y ≡ n) where
 
 -- All tables -----------------------------------------------------------------------------------------------------------------------------
 
--- what is cut from long tables, beside tables of facts and cells of zeros
-pub parts_lent : {room : ℕ} (T : TheoryLists) (W : Working) (M : List ℕ) {rows feet cells : List ℕ} → AllLong room T W M → rows ≡ replicate (6 * FACTS) 0 →
-    feet ≡ replicate (4 * FACTS) 0 → cells ≡ replicate LENGTH 0 → Opening (theory_front T) (board_front W rows feet) cells
-parts_lent T W M h r f c =
-    let t = h.theory in
-    let w = h.working in
-    record {
-      theory = record {
-        sorts = length-take-le (2 * SORTS) T.sorts t.sorts;
-        symbols = length-take-le (4 * SYMBOLS) T.symbols t.symbols;
-        inputs = length-take-le (ARGUMENTS * SYMBOLS) T.inputs t.inputs;
-        rules = length-take-le (6 * RULES) T.rules t.rules;
-        rule_vars = length-take-le (3 * RULEVARS * RULES) T.rule_vars t.rule_vars;
-        patterns = length-take-le PATTERNS T.patterns t.patterns;
-      };
-      lent = record {
-        exact = record {
-          vars = length-take-le (4 * VARIABLES) W.vars w.vars;
-          index = length-take-le (4 * TERMS) W.index w.index;
-          words = length-take-le WORDS W.words w.words;
-          defs = length-take-le (3 * DEFS) W.defs w.defs;
-          goals = length-take-le (6 * GOALS) W.goals w.goals;
-          lists = length-take-le ENTRIES W.lists w.lists;
-        };
-        facts_zero = r;
-        footings_zero = f;
-      };
-      cells_zero = c;
-    }
-
 -- the named lengths of tables that stand for a state
 module _ {X : Texts} {T : TheoryLists} {B : Board} {n : Sizes} {m : Mark} {S : State} (h : Stands X T B n m S) where
   pub theory_exact : Exact T

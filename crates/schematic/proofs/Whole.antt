@@ -10,8 +10,8 @@ use Rattle.state.specs.declared.sizes.Sizes.{Sizes}
 use Rattle.terms.specs.declared.store.Store.{Store}
 use Rattle.state.specs.declared.board.Given.{Given}
 use Rattle.state.specs.declared.board.Board.{Board as Lent}
-use Rattle.state.specs.Stands.{Board, board}
-use Rattle.forms.specs.Boards.{theory_of, tables_of as tables_in}
+use Rattle.state.specs.Stands.{Board, board, tables_of as tables_in}
+use Rattle.forms.specs.Boards.{theory_of}
 use Rattle.facts.specs.declared.Fact.{Fact}
 use Rattle.facts.specs.Table.{zeroed}
 use Rattle.facts.specs.Laws.{drop_zeroed}

@@ -10,12 +10,12 @@ use Rattle.terms.specs.Table.{settled}
 use Rattle.state.specs.declared.sizes.Sizes.{Sizes}
 use Rattle.state.specs.declared.board.Given.{Given}
 use Rattle.state.specs.declared.board.Board.{Board as Lent}
-use Rattle.state.specs.Stands.{Board, board}
+use Rattle.state.specs.Stands.{Board, board, tables_of as tables_in}
 use Rattle.facts.specs.declared.Fact.{Fact}
 use Rattle.facts.specs.Table.{zeroed}
 use Rattle.counts.specs.declared.Counts.{Counts}
 use Rattle.counts.specs.Counted.{counts_of}
-use Rattle.forms.specs.Boards.{theory_of, tables_of as tables_in}
+use Rattle.forms.specs.Boards.{theory_of}
 use Rattle.running.specs.declared.stopped.Stopped.{Stopped}
 use Rattle.running.specs.declared.finish.Report.{Report}
 use Rattle.running.specs.declared.finish.Refusal.{Refusal}

@@ -6,8 +6,9 @@ ghost use Rattle.rules.specs.Limits.{GOALS, FACTS};
 ghost use Rattle.kernel.specs.Parsed.{theory_lists, Exact};
 ghost use Rattle.kernel.specs.Tables.{lists_of, SameTables as SameTheory};
 ghost use Rattle.terms.specs.Lent.{SameTables};
+ghost use Rattle.state.specs.Stands.{tables_of};
 ghost use Rattle.counts.specs.Sum.{none};
-ghost use Rattle.forms.specs.Boards.{tables_of, SameBoard};
+ghost use Rattle.forms.specs.Boards.{SameBoard};
 ghost use Rattle.running.specs.Finished.{answer_of};
 ghost use Rattle.running.specs.Lent.{working, LongWorking};
 ghost use Rattle.running.specs.Between.{AllLong};
@@ -21,7 +22,7 @@ use advancing::advance::{Scratch, next_form};
 use beginning::begin::{begin, given_of};
 use beginning::tables::{fits, theory_sizes};
 use beginning::texts::Texts;
-use counts::{Counts, add, no_counts};
+use counts::{Counts, add};
 use facts::{Fact, append_if, zero_behind};
 use kernel::tables::{Counts as Held, Tables};
 use questions::{Question, Refused, Text};
@@ -114,14 +115,15 @@ fn check_exact(
     ensures same_scratch { SameScratch scratch.old scratch.new }
     ensures whole { Whole texts.now.theory.now texts.now.goals.now texts.now.proof.now (lists_of tables.new) (tables_of board.new store.new) missing.new facts.old facts.new result }
 {
-    let mut counts = no_counts();
+    let mut counts = Counts::NONE;
     let outcome = run(texts, tables, board, store, scratch, facts, &mut counts);
     let answer = finish(outcome, counts, board, store, missing);
     zero_behind(facts, board.n.facts, rules::FACTS);
     answer
 }
 
-// The same in tables of the theory of their named lengths, and others that may be longer. These stand one by one since C lends them so.
+// The same in tables of the theory of their named lengths, and others that may be longer. These stand one by one since C lends them so, and are most of
+// its length.
 fn check_long(
     texts: &Texts<'_>,
     tables: &mut Tables<'_>,
@@ -238,7 +240,7 @@ fn check_fit(
 }
 
 // The whole check. The three texts; tables of the theory; variables, the store, abbreviations, goals; facts; entries of lists; the list of question 53.
-// Nothing is asked of them. They stand one by one since C lends them so; where one is too short, nothing is written.
+// Nothing is asked of them. They stand one by one since C lends them so, which makes it long; where one is too short, nothing is written.
 pub fn check(
     theory: &[u8],
     goals: &[u8],

@@ -12,7 +12,7 @@ pub mod answers;
 mod tables;
 pub mod told;
 
-use facts::{Fact, blank_fact};
+use facts::Fact;
 use running::finish::{Refusal, Report};
 
 // The row of fact i.
@@ -51,7 +51,8 @@ fn store_rows(facts: &[Fact], rows: &mut [u32], feet: &mut [u64])
     }
 }
 
-// The answer, the tables as a check leaves them, and the facts in the last two.
+// The answer, the tables as a check leaves them, and the facts in the last two. The tables stand one by one as in `schematic::check`, to which they are
+// lent on: they are most of its length.
 pub fn check_rows(
     theory: &[u8],
     goals: &[u8],
@@ -80,7 +81,7 @@ pub fn check_rows(
         (working vars.new index.new words.new defs.new rows.new lists.new)
         missing.old missing.new facts.old facts.new footings.old footings.new result }
 {
-    let mut records = [blank_fact(); rules::FACTS];
+    let mut records = [Fact::BLANK; rules::FACTS];
     let r = schematic::check(
         theory,
         goals,

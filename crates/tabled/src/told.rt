@@ -1,6 +1,5 @@
 // The answer to three texts and what is recorded with it, written line by line.
 use crate::tables::Tables;
-use printing::checked::Checked;
 use printing::line::Line;
 use std::alloc::Global;
 use std::io;

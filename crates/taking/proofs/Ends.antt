@@ -14,8 +14,8 @@ use Rattle.terms.specs.Laws.Growth.{same_then, start_same, made_same}
 use Rattle.state.specs.declared.sizes.Sizes.{Sizes}
 use Rattle.state.specs.declared.board.Given.{Given}
 use Rattle.state.specs.declared.board.Board.{Board}
-use Rattle.state.specs.Stands.{Board as Tables, Stands}
-use Rattle.forms.specs.Boards.{StandsIn, texts_of, theory_of, tables_of}
+use Rattle.state.specs.Stands.{Board as Tables, Stands, tables_of}
+use Rattle.forms.specs.Boards.{StandsIn, texts_of, theory_of}
 use Rattle.forms.specs.Moved.{store_now, LeftIn}
 use Rattle.forms.specs.Laws.Leaving.{stands_again}
 use Rattle.taking.specs.Taking.{Refuses}

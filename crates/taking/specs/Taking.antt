@@ -14,10 +14,10 @@ use Rattle.terms.specs.declared.store.Store.{Store}
 use Rattle.state.specs.declared.sizes.Sizes.{Sizes}
 use Rattle.state.specs.declared.board.Given.{Given}
 use Rattle.state.specs.declared.board.Board.{Board}
-use Rattle.state.specs.Stands.{Texts, Board as Tables, Stands}
+use Rattle.state.specs.Stands.{Texts, Board as Tables, Stands, tables_of}
 use Rattle.counts.specs.declared.Counts.{Counts}
 use Rattle.counts.specs.Counted.{counts_of}
-use Rattle.forms.specs.Boards.{texts_of, theory_of, tables_of, StandsIn}
+use Rattle.forms.specs.Boards.{texts_of, theory_of, StandsIn}
 use Rattle.forms.specs.Moved.{MovesIn}
 
 -- Given ----------------------------------------------------------------------------------------------------------------------------

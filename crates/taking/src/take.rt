@@ -12,7 +12,7 @@ ghost use Rattle.taking.specs.Taking.{TakesFormIn, TakesGoalIn, TakenIn, GoalTak
 ghost use Rattle.taking.specs.Tried.{ItemsIn, GoalItemsIn, TriedIn, GoalTriedIn, one_hypothesis, NumberedAs};
 
 use crate::tags::{tag_of, tag_of_goal};
-use counts::{Counts, no_counts};
+use counts::Counts;
 use entering::derive::{Way, add_derived, add_invert};
 use forms::declare::{add_def, add_var};
 use forms::goals::{add_goal, add_goal_with};
@@ -33,7 +33,7 @@ fn one_hypothesis() -> Counts
 {
     Counts {
         hypotheses: 1,
-        ..no_counts()
+        ..Counts::NONE
     }
 }
 
@@ -116,8 +116,8 @@ fn form_items(
     };
     own_index(given.text, cells, tag, board.n)?;
     match tag {
-        Tag::Var => add_var(given, board, 3, cells).and(Ok(no_counts())),
-        Tag::Def => add_def(given, board, store, cells).and(Ok(no_counts())),
+        Tag::Var => add_var(given, board, 3, cells).and(Ok(Counts::NONE)),
+        Tag::Def => add_def(given, board, store, cells).and(Ok(Counts::NONE)),
         Tag::Step => add_derived(given, board, store, cells, Way::Step, memo, ids),
         Tag::Hyp => add_hyp(given, board, store, cells).and(Ok(one_hypothesis())),
         Tag::RuleHyp => add_rule_hyp(given, board, store, cells).and(Ok(one_hypothesis())),
@@ -125,7 +125,7 @@ fn form_items(
         Tag::InductWith => add_derived(given, board, store, cells, Way::InductWith, memo, ids),
         Tag::Apply => add_derived(given, board, store, cells, Way::Apply, memo, ids),
         Tag::Invert => add_invert(given, board, store, cells, memo, ids),
-        Tag::Outcome => result(given, board, store, cells, memo).and(Ok(no_counts())),
+        Tag::Outcome => result(given, board, store, cells, memo).and(Ok(Counts::NONE)),
     }
 }
 

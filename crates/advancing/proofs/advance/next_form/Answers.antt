@@ -1,6 +1,7 @@
 use Rattle.std.specs.Prelude.{refl}
 use Rattle.std.proofs.lemmas.Result.{err_from_is_err_and}
-use Rattle.advancing.proofs.Steps.{clean, at_the_end, at_unread, form_asks, cleared, form_refused, refused_stay, stored_asks, taken_stay, form_taken}
+use Rattle.cells.specs.Cleared.{front_cleared}
+use Rattle.advancing.proofs.Steps.{clean, at_the_end, at_unread, form_asks, used_inside, cleared, form_refused, refused_stay, stored_asks, taken_stay, form_taken}
 use Rattle.advancing.proofs.advance.next_form.Goals as goal
 
 pub read_form-requires-clause-clear : goal.read_form-requires-clause-clear
@@ -48,7 +49,7 @@ returns-in_err-counts-clause-idle_again c =
     let w = c.in_ok-form.was in
     let e = rw c.in-Some.is at w in
     let z = c.take_form-taken.ensures.spare_unchanged in
-    cleared c.requires.ready c.requires.idle c.read_form.ensures e c.clear.ensures z.0 z.1
+    cleared c.requires.ready c.requires.idle c.read_form.ensures e (front_cleared 0 _ _ (used_inside c.requires.ready c.requires.idle c.read_form.ensures e) c.clear.ensures) z.0 z.1
 
 pub stored-requires : goal.stored-requires
 stored-requires c =
@@ -76,4 +77,4 @@ returns-clause-idle_again c =
     let w = c.in_ok-form.was in
     let e = rw c.in-Some.is at w in
     let z = c.take_form-taken.ensures.spare_unchanged in
-    cleared c.requires.ready c.requires.idle c.read_form.ensures e c.clear.ensures z.0 z.1
+    cleared c.requires.ready c.requires.idle c.read_form.ensures e (front_cleared 0 _ _ (used_inside c.requires.ready c.requires.idle c.read_form.ensures e) c.clear.ensures) z.0 z.1

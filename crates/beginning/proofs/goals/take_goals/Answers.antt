@@ -1,5 +1,6 @@
 use Rattle.beginning.proofs.Turns.{turn_first, turn_no_goals, turn_ends, turn_fails, turn_takes, turn_refused, turn_on}
-use Rattle.sexp.specs.Through.{going_cleared}
+use Rattle.cells.specs.Cleared.{front_cleared}
+use Rattle.sexp.specs.Through.{going_room, going_cleared}
 use Rattle.beginning.proofs.goals.take_goals.Goals as goal
 
 pub loop-form-init : goal.loop-form-init
@@ -20,13 +21,16 @@ returns-in-Err-taken-clause-posed c =
 
 pub returns-in-Err-taken-clause-cells_unchanged : goal.returns-in-Err-taken-clause-cells_unchanged
 returns-in-Err-taken-clause-cells_unchanged c =
-    going_cleared c.loop-form.invariant.0.going c.read_form.ensures (rw c.in-Ok-Some.field-0-is at c.in-Ok-Some.is) c.clear.ensures
+    let e = rw c.in-Ok-Some.field-0-is at c.in-Ok-Some.is in
+    let going = c.loop-form.invariant.0.going in
+    going_cleared going c.read_form.ensures e (front_cleared 0 _ _ (going_room going c.read_form.ensures e c.read_form.auto.words) c.clear.ensures)
 
 pub loop-form-preserved : goal.loop-form-preserved
 loop-form-preserved c =
     let e = rw c.in-Ok-Some.field-0-is at c.in-Ok-Some.is in (
       turn_on c.loop-form.invariant.0 c.read_form.ensures e c.take_goal-taken.new.board c.take_goal-taken.new.store
-          (c.in_default.ensures.taken_as (turn_takes c.loop-form.invariant.0 c.read_form.ensures e)) c.clear.ensures,
+          (c.in_default.ensures.taken_as (turn_takes c.loop-form.invariant.0 c.read_form.ensures e))
+          (front_cleared 0 _ _ (going_room c.loop-form.invariant.0.going c.read_form.ensures e c.read_form.auto.words) c.clear.ensures),
       search,
       search,
     )

@@ -1,5 +1,5 @@
 use Rattle.std.proofs.Common.{refl}
-use Rattle.forms.specs.Boards.{tables_of}
+use Rattle.state.specs.Stands.{tables_of}
 use Rattle.beginning.proofs.Blank.{board_cleared}
 use Rattle.beginning.proofs.tables.clear_board.Goals as goal
 

@@ -37,4 +37,4 @@ returns-clause-inverted c =
     c.enter_derived.new.board _ w.0 w.1 c.in_ok-enter_derived.ensures.enter_as
     (c.put_made.ensures _ _ _
     (invert_held c.args.given.now c.args.board.now c.args.store.now c.invert.new.store c.args.cells.now (replicate VARIABLES 0) c.invert.new.sorts x _ f
-    c.enter_derived.new.board c.enter_derived.ensures.only c.in_ok-enter_derived.ensures.enter_as)) _ (rw c.no_counts.ensures refl)
+    c.enter_derived.new.board c.enter_derived.ensures.only c.in_ok-enter_derived.ensures.enter_as)) _ refl

@@ -29,7 +29,7 @@ add_var-requires c =
 pub returns-in-Var-clause-tried_as : goal.returns-in-Var-clause-tried_as
 returns-in-Var-clause-tried_as c = λ i.
     let f = c.in-Some.ensures i.xs i.holds in
-    rw (c.and.ensures, c.no_counts.ensures) (performed i (told Var f c.in-Var.is) (perform_var i.xs i.S) c.add_var.new.board c.args.store.now _
+    rw c.and.ensures (performed i (told Var f c.in-Var.is) (perform_var i.xs i.S) c.add_var.new.board c.args.store.now _
     (var_tried i c.add_var.new.board _ c.add_var.ensures.only (c.add_var.ensures.var_as (gives_var i.stands {which = 3} (omega arith) i.holds (many i f Var c.in-Var.is)))))
 
 pub add_def-requires : goal.add_def-requires
@@ -40,7 +40,7 @@ add_def-requires c =
 pub returns-in-Def-clause-tried_as : goal.returns-in-Def-clause-tried_as
 returns-in-Def-clause-tried_as c = λ i.
     let f = c.in-Some.ensures i.xs i.holds in
-    rw (c.and-in-Def.ensures, c.no_counts-in-Def.ensures) (performed i (told Def f c.in-Def.is) (perform_def i.xs i.S) c.add_def.new.board c.add_def.new.store _
+    rw c.and-in-Def.ensures (performed i (told Def f c.in-Def.is) (perform_def i.xs i.S) c.add_def.new.board c.add_def.new.store _
     (def_tried i c.add_def.new.board c.add_def.new.store _ c.add_def.ensures.only (c.add_def.ensures.def_as (gives_form i.stands i.holds (many i f Def c.in-Def.is)))))
 
 pub add_derived-requires-clause-adds : goal.add_derived-requires-clause-adds
@@ -124,7 +124,7 @@ result-requires-clause-takes_result c =
 pub returns-in-Outcome-clause-tried_as : goal.returns-in-Outcome-clause-tried_as
 returns-in-Outcome-clause-tried_as c = λ i.
     let f = c.in-Some.ensures i.xs i.holds in
-    rw (c.and-in-Outcome.ensures, c.no_counts-in-Outcome.ensures) (performed i (told Outcome f c.in-Outcome.is) (perform_result i.xs i.S) c.result.new.board c.result.new.store _
+    rw c.and-in-Outcome.ensures (performed i (told Outcome f c.in-Outcome.is) (perform_result i.xs i.S) c.result.new.board c.result.new.store _
     (result_tried i c.result.new.board c.result.new.store _ c.result.ensures.only.0 c.result.ensures.only.1 (c.result.ensures.resulted_as (stands_result i.stands i.holds (many i f Outcome c.in-Outcome.is)))))
 
 pub returns-in_default-clause-tried_as : goal.returns-in_default-clause-tried_as
