@@ -1,7 +1,7 @@
 -- The named parts of tables that may be longer: what is cut from them, and what stands in the whole afterwards. Assumes nothing.
-use Rattle.std.specs.Prelude.{◌≡◌, List, ◌++◌, ℕ, ◌*◌, length, take, drop, replicate}
-use Rattle.std.proofs.Common.{sym, ap, ◌∙◌, subst, length-take-le, take_at, drop_at}
-use Rattle.rules.specs.Limits.{LENGTH, SORTS, SYMBOLS, ARGUMENTS, RULES, RULEVARS, PATTERNS, VARIABLES, TERMS, WORDS, DEFS, GOALS, FACTS, ENTRIES}
+use Rattle.std.specs.Prelude.{◌≡◌, List, ◌++◌, ℕ, ◌*◌, length, take, drop}
+use Rattle.std.proofs.Common.{sym, ap, ◌∙◌, subst, take_at, drop_at}
+use Rattle.rules.specs.Limits.{SORTS, SYMBOLS, ARGUMENTS, RULES, RULEVARS, PATTERNS, VARIABLES, TERMS, WORDS, DEFS, GOALS, ENTRIES}
 use Rattle.rules.specs.State.{State}
 use Rattle.rules.specs.StateTables.{var_cells, def_cells, goal_cells}
 use Rattle.rules.specs.Laws.Row.{length_filled}
@@ -12,9 +12,7 @@ use Rattle.state.specs.declared.sizes.Sizes.{Sizes}
 use Rattle.state.specs.Held.{listed}
 use Rattle.state.specs.Stands.{Texts, Board, board, trees_of, Stands}
 use Rattle.running.specs.Lent.{Working, working, theory_front, board_front, TheoryBehind, WorkingBehind}
-use Rattle.running.specs.Between.{AllLong}
 use Rattle.beginning.specs.Lengths.{ExactBoard}
-use Rattle.beginning.specs.Opened.{Opening}
 
 -- One table ----------------------------------------------------------------------------------------------------------------------------
 

@@ -19,7 +19,7 @@ use forms::goals::{add_goal, add_goal_with};
 use forms::hypotheses::{add_hyp, add_rule_hyp};
 use forms::next::is_next;
 use forms::results::result;
-use questions::Question;
+use questions::{Question, Text};
 use sexp::items;
 use sexp::items::Item;
 use sexp::tags::{GoalForm, Tag};
@@ -53,7 +53,7 @@ fn goal_items(
         return Err(Question::GoalForm);
     };
     match tag {
-        GoalForm::Variable => add_var(given, board, 2, cells),
+        GoalForm::Variable => add_var(given, board, Text::Goals, cells),
         GoalForm::Goal => add_goal(given, board, store, cells),
         GoalForm::GoalWith => add_goal_with(given, board, store, cells),
     }
@@ -116,7 +116,7 @@ fn form_items(
     };
     own_index(given.text, cells, tag, board.n)?;
     match tag {
-        Tag::Var => add_var(given, board, 3, cells).and(Ok(Counts::NONE)),
+        Tag::Var => add_var(given, board, Text::Proof, cells).and(Ok(Counts::NONE)),
         Tag::Def => add_def(given, board, store, cells).and(Ok(Counts::NONE)),
         Tag::Step => add_derived(given, board, store, cells, Way::Step, memo, ids),
         Tag::Hyp => add_hyp(given, board, store, cells).and(Ok(one_hypothesis())),

@@ -1,5 +1,4 @@
 use mathlib.Core.Path.{refl}
-use native.Mathlib.Omega.{arith}
 use Rattle.rules.specs.Forms.{add_hyp, add_rule_hyp}
 use Rattle.sexp.specs.declared.tags.Tag.TheVariants.{Var, Def, Step, Hyp, RuleHyp, Induct, InductWith, Apply, Invert, Outcome}
 use Rattle.forms.specs.Laws.Declared.{gives_form, gives_var}
@@ -24,13 +23,13 @@ returns-in_err-own_index-clause-tried_as c = λ i.
 pub add_var-requires : goal.add_var-requires
 add_var-requires c =
     let i = c.requires.0 in
-    gives_var i.stands {which = 3} (omega arith) i.holds (many i (c.in-Some.ensures i.xs i.holds) Var c.in-Var.is)
+    gives_var i.stands i.holds (many i (c.in-Some.ensures i.xs i.holds) Var c.in-Var.is)
 
 pub returns-in-Var-clause-tried_as : goal.returns-in-Var-clause-tried_as
 returns-in-Var-clause-tried_as c = λ i.
     let f = c.in-Some.ensures i.xs i.holds in
     rw c.and.ensures (performed i (told Var f c.in-Var.is) (perform_var i.xs i.S) c.add_var.new.board c.args.store.now _
-    (var_tried i c.add_var.new.board _ c.add_var.ensures.only (c.add_var.ensures.var_as (gives_var i.stands {which = 3} (omega arith) i.holds (many i f Var c.in-Var.is)))))
+    (var_tried i c.add_var.new.board _ c.add_var.ensures.only (c.add_var.ensures.var_as (gives_var i.stands i.holds (many i f Var c.in-Var.is)))))
 
 pub add_def-requires : goal.add_def-requires
 add_def-requires c =

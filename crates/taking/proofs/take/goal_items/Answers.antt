@@ -1,5 +1,4 @@
 use mathlib.Core.Path.{refl}
-use native.Mathlib.Omega.{arith}
 use Rattle.rules.specs.Tags.{a_variable, a_goal, a_goal_with}
 use Rattle.sexp.specs.declared.tags.GoalForm.TheVariants.{Variable, Goal, GoalWith}
 use Rattle.forms.specs.Laws.Declared.{gives_var}
@@ -9,7 +8,7 @@ use Rattle.taking.proofs.Arms.{goal_given, goal_untagged, posed, posed_var, pose
 use Rattle.taking.proofs.take.goal_items.Goals as goal
 
 pub add_var-requires : goal.add_var-requires
-add_var-requires c = (gives_var c.requires.items.stands {which = 2} (omega arith) c.requires.items.holds (goal_many c.requires.items.xs a_variable (told_goal Variable (c.in-Some.ensures c.requires.items.xs c.requires.items.holds) c.in-Variable.is)))
+add_var-requires c = (gives_var c.requires.items.stands c.requires.items.holds (goal_many c.requires.items.xs a_variable (told_goal Variable (c.in-Some.ensures c.requires.items.xs c.requires.items.holds) c.in-Variable.is)))
 
 pub add_goal-requires : goal.add_goal-requires
 add_goal-requires c = (goal_given c.requires (goal_many c.requires.items.xs a_goal (told_goal Goal (c.in-Some.ensures c.requires.items.xs c.requires.items.holds) c.in-Goal.is)))
@@ -22,7 +21,7 @@ add_goal_with-requires-clause-lists_len c = stands_lists (rw c.requires.text at 
 
 pub returns-in-Variable-clause-tried_as : goal.returns-in-Variable-clause-tried_as
 returns-in-Variable-clause-tried_as c = λ i. posed i (told_goal Variable (c.in-Some.ensures i.items.xs i.items.holds) c.in-Variable.is) (goal_var i.items.xs i.items.S) c.add_var.new.board c.args.store.now _
-    (posed_var i c.add_var.new.board _ c.add_var.ensures.only (c.add_var.ensures.var_as (gives_var i.items.stands {which = 2} (omega arith) i.items.holds (goal_many i.items.xs a_variable (told_goal Variable (c.in-Some.ensures i.items.xs i.items.holds) c.in-Variable.is)))))
+    (posed_var i c.add_var.new.board _ c.add_var.ensures.only (c.add_var.ensures.var_as (gives_var i.items.stands i.items.holds (goal_many i.items.xs a_variable (told_goal Variable (c.in-Some.ensures i.items.xs i.items.holds) c.in-Variable.is)))))
 
 pub returns-in-Goal-clause-tried_as : goal.returns-in-Goal-clause-tried_as
 returns-in-Goal-clause-tried_as c = λ i. posed i (told_goal Goal (c.in-Some.ensures i.items.xs i.items.holds) c.in-Goal.is) refl c.add_goal.new.board c.add_goal.new.store _
