@@ -18,7 +18,7 @@ pub fn tag_of_goal(text: &[u8], items: &[u32]) -> Option<GoalForm>
     goal_tag(name, items::count(items))
 }
 
-// Of the proof.
+// Of the proof. One function for both would be handed `goal_tag` or `proof_tag` and what each promises, and say these two lines no more plainly.
 pub fn tag_of(text: &[u8], items: &[u32]) -> Option<Tag>
     requires { Held text.now items.now }
     ensures { (xs : Sexps) → Holds text.now items.now xs → result ≡ tag_answer (tagged proof_tag xs) }
