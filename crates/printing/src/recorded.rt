@@ -13,7 +13,11 @@ impl Checked<'_> {
         let facts = match self.answer {
             Ok(r) => r.steps,
             Err(r) if r.text == Text::Proof.number() => {
-                let vars = self.vars.iter().filter(|row| row[1] as usize == Text::Proof.number()).count();
+                let vars = self
+                    .vars
+                    .iter()
+                    .filter(|row| row[1] as usize == Text::Proof.number())
+                    .count();
                 let defs = self.defs.iter().filter(|row| row[1] != 0).count();
                 let taken = self.rows.iter().filter(|row| row[5] != 0).count();
                 r.form
