@@ -1,24 +1,21 @@
 -- The heads of the rules' conclusions, and the rules of a predicate one after the other. Assumes nothing.
 use Rattle.std.specs.Prelude.{Some as some, None as nothing}
 use mathlib.Core.Path.{◌≡◌, refl, sym, ap, ◌∙◌}
-use Prim.Native.Nat.{ℕ, suc, ◌+◌, ◌<◌, ◌≤◌}
+use Prim.Native.Nat.{ℕ, ◌+◌, ◌<◌, ◌≤◌}
 use mathlib.Core.Bool.{Bool, true, false}
-use mathlib.Core.List.{List, ◌++◌}
+use mathlib.Core.List.{List}
 use native.Mathlib.Omega.{arith}
 use lib.Dec.{eqb}
-use lib.ListN.{length, get_or, drop}
-use lib.Seq.{drop-drop, drop-append_seam}
+use lib.ListN.{length, get_or}
 use Rattle.rules.specs.Tree.{Tree, var, app}
 use Rattle.rules.specs.Laws.Find.{first_here, first_later, first_over}
 use Rattle.rules.specs.Theory.{Theory, Rule, no_rule, rule, head_is}
-use Rattle.rules.specs.Laws.Theory.{Judgment, all_at}
-use Rattle.rules.specs.TheoryTables.{prefix, prefixes, pattern_row, pattern_cells}
-use Rattle.rules.specs.Laws.Row.{append_assoc}
-use Rattle.kernel.specs.Readers.{words_before, conclusion_at, FormedRules, SomeFormedRules, KnownFormedRule}
-use Rattle.kernel.specs.Entries.{formed_rule}
+use Rattle.rules.specs.Laws.Theory.{Judgment}
+use Rattle.kernel.specs.Readers.{conclusion_at, FormedRules, SomeFormedRules, KnownFormedRule}
+use Rattle.kernel.specs.Entries.{formed_rule, rule_formed}
 use Rattle.kernel.specs.Listing.{next_rule}
-use Rattle.kernel.specs.RuleRows.{words_here}
-use Rattle.kernel.proofs.Conclusions.{begins}
+use Rattle.kernel.specs.RuleWords.{conclusion_stands}
+use Rattle.terms.specs.Patterns.{Stands}
 
 -- One rule -----------------------------------------------------------------------------------------------------------------------
 
@@ -28,32 +25,19 @@ pub record Head (P : List ℕ) (T : Theory) (r : ℕ) : Type 0 where
   pub is : (p : ℕ) → eqb p (get_or P (conclusion_at T r) 0) ≡ head_is p (rule T r).conclusion
 
 module _ {symbols rules patterns : List ℕ} {r : ℕ} (T : Theory) (count : ℕ) (f : FormedRules symbols rules patterns count T) (l : r < count) where
-  -- the words from the conclusion on
-  conclusion_here : drop (conclusion_at T r) patterns
-      ≡ prefix (rule T r).conclusion ++ (pattern_cells (drop (suc r) T.rules) ++ f.held.written.rest)
-  unfolding conclusion_at pattern_row
-  conclusion_here =
-      let tail = pattern_cells (drop (suc r) T.rules) ++ f.held.written.rest in
-      let ps = prefixes (rule T r).premises in
-      sym (drop-drop (length ps) (words_before T.rules r) patterns)
-      ∙ ap (drop (length ps)) (words_here T f.held r l ∙ append_assoc ps (prefix (rule T r).conclusion) tail)
-      ∙ drop-append_seam ps (prefix (rule T r).conclusion ++ tail)
-
   judged : Judgment T (rule T r).vars (rule T r).conclusion
-  unfolding rule
-  judged = (all_at T.rules r no_rule f.formed.rules (omega (arith, l, f.held.many))).conclusion
+  judged = (rule_formed f l).conclusion
 
   pub head_here : Head patterns T r
-  unfolding Judgment prefix head_is
-  head_here = go (rule T r).conclusion refl judged conclusion_here
+  unfolding Judgment Stands head_is
+  head_here = go (rule T r).conclusion refl judged (conclusion_stands f l refl)
     where
-      go : (t : Tree) → (rule T r).conclusion ≡ t → Judgment T (rule T r).vars (rule T r).conclusion →
-          drop (conclusion_at T r) patterns ≡ prefix (rule T r).conclusion ++ (pattern_cells (drop (suc r) T.rules) ++ f.held.written.rest) →
+      go : (t : Tree) → (rule T r).conclusion ≡ t → Judgment T (rule T r).vars (rule T r).conclusion → Stands symbols patterns (conclusion_at T r) (rule T r).conclusion →
           Head patterns T r
       go (var i) e j w = absurd (rw e at j)
       go (app d ts) e j w =
-          let b = begins patterns (conclusion_at T r) d (prefixes ts ++ (pattern_cells (drop (suc r) T.rules) ++ f.held.written.rest)) (rw e at w) in
-          record { inside = b.inside; is = λ p. ap (λ (k : ℕ). eqb p k) b.word ∙ sym (ap (head_is p) e) }
+          let s : Stands symbols patterns (conclusion_at T r) (app d ts) = rw e at w in
+          record { inside = s.0; is = λ p. ap (λ (k : ℕ). eqb p k) s.1 ∙ sym (ap (head_is p) e) }
 
 -- what the reader of the place says
 module _ {symbols rules patterns : List ℕ} {r : ℕ} (k : KnownFormedRule symbols rules patterns r) (place : ℕ)

@@ -11,3 +11,4 @@ pub mod Readers
 pub mod RuleRows
 pub mod Listing
 pub mod Entries
+pub mod RuleWords

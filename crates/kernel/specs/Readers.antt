@@ -1,7 +1,6 @@
 -- What the readers of a theory's tables cite: that a table holds some theory's entries, an entry among them. Assumes nothing.
-use Rattle.std.specs.Prelude.{◌≡◌, ℕ, ◌+◌, ◌-◌, ◌<◌, ◌≤◌, true, false, List, ltb, length, get_or, take, drop}
-use Rattle.rules.specs.Limits.{SYMBOLS}
-use Rattle.rules.specs.Theory.{Theory, Rule, no_symbol, no_rule, inputs, rule}
+use Rattle.std.specs.Prelude.{◌≡◌, ℕ, ◌+◌, ◌-◌, ◌<◌, ◌≤◌, List, length, get_or, take, drop}
+use Rattle.rules.specs.Theory.{Theory, Rule, no_symbol, no_rule, rule}
 use Rattle.rules.specs.TheoryTables.{prefixes, pattern_row, pattern_cells}
 use Rattle.rules.specs.Laws.Theory.{WellFormed}
 use Rattle.kernel.specs.Held.{SymbolsHeld, SomeSymbolsHeld}
@@ -109,11 +108,3 @@ pub record KnownFormedRule (symbols rules patterns : List ℕ) (r : ℕ) : Type 
   pub T : Theory
   pub formed : FormedRules symbols rules patterns count T
   pub known : r < count
-
--- a word of a pattern is a variable's, or that of a symbol that is there
-abbrev pub KnownWord : List ℕ → ℕ → Type 0
-KnownWord symbols w = w < SYMBOLS → KnownSymbol symbols w
-
--- how many arguments stand behind a word: a symbol's, or none behind a variable
-unfoldable pub arguments_behind : Theory → ℕ → ℕ
-arguments_behind T w = elim (ltb w SYMBOLS) [ true ↦ length (inputs T w) | false ↦ 0 ]

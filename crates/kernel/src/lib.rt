@@ -3,6 +3,7 @@
 
 pub mod atoms;
 mod declare;
+mod judgments;
 pub mod names;
 pub mod parse;
 mod patterns;
@@ -13,4 +14,3 @@ pub mod rule_readers;
 mod signatures;
 mod symbols;
 pub mod tables;
-mod terms;

@@ -1,21 +1,19 @@
 // Reading the tables of rules: a rule's name, variables, premises and words by its number, its number and that of a variable by name, and
 // the rules of a predicate one after the other.
 ghost use Rattle.std.specs.Prelude.{◌≡◌, ℕ, ◌+◌, ◌<◌, List, length, get_or};
-ghost use Rattle.rules.specs.Limits.{SYMBOLS};
 ghost use Rattle.rules.specs.Text.{same};
 ghost use Rattle.rules.specs.Find.{first};
 ghost use Rattle.rules.specs.Tree.{count_trees};
 ghost use Rattle.rules.specs.Theory.{Theory, rule, rule_named, head_is};
 ghost use Rattle.rules.specs.Declare.{no_rule_var};
 ghost use Rattle.sexp.specs.AtomText.{Spans};
-ghost use Rattle.kernel.specs.Held.{SymbolsHeld};
 ghost use Rattle.kernel.specs.HeldRules.{RulesHeld};
-ghost use Rattle.kernel.specs.Readers.{KnownRule, KnownVar, NamedRules, NamedVars, WordsAt, KnownWord, arguments_behind, FormedRules, KnownFormedRule, SomeFormedRules, conclusion_at};
+ghost use Rattle.kernel.specs.Readers.{KnownRule, KnownVar, NamedRules, NamedVars, WordsAt, FormedRules, KnownFormedRule, SomeFormedRules, conclusion_at};
 ghost use Rattle.kernel.specs.Listing.{next_rule};
 
-use crate::readers::arity;
 use cells::Span;
 use sexp::names::named;
+use terms::patterns::Patterns;
 
 // The rows of rules, their variables, the words of their patterns.
 #[derive(Clone, Copy)]
@@ -105,18 +103,6 @@ pub fn rule_var_named(
     named(text, vars, 3, 3 * rules::RULEVARS * r + 1, count, name)
 }
 
-// How many arguments stand behind a word: a symbol's, or none behind a variable.
-fn arguments_behind(symbols: &[u32], word: usize) -> usize
-    requires { KnownWord symbols.now word }
-    ensures { (T : Theory) (text inputs : List ℕ) (count : ℕ) → SymbolsHeld text symbols.now inputs count T.symbols →
-        (word < SYMBOLS → word < count) → result ≡ arguments_behind T word }
-{
-    if word < rules::SYMBOLS {
-        return arity(symbols, word);
-    }
-    0
-}
-
 impl Rules<'_> {
     // The place of the first word of the conclusion of rule r: behind the words of its premises.
     pub fn conclusion(&self, symbols: &[u32], r: usize) -> usize
@@ -124,16 +110,11 @@ impl Rules<'_> {
         ensures { (T : Theory) (count : ℕ) → FormedRules symbols.now self.now.rows.now self.now.patterns.now count T → r < count →
             result ≡ conclusion_at T r }
     {
-        let span = words(self.rows, r);
-        let mut place = span.from;
-        let mut left = premises(self.rows, r);
-        // over the words of the premises, which is no count: each word leaves its arguments to read
-        while left != 0 {
-            let more = arguments_behind(symbols, self.patterns[place] as usize);
-            left = left - 1 + more;
-            place += 1;
-        }
-        place
+        let patterns = Patterns {
+            symbols,
+            words: self.patterns,
+        };
+        patterns.skip(words(self.rows, r).from, premises(self.rows, r))
     }
 
     // Whether the conclusion of rule r is of that predicate.
