@@ -12,7 +12,7 @@ use Rattle.rules.specs.TheoryTables.{filled, rows, name_cells, symbol_row, input
 use Rattle.rules.specs.Laws.Row.{length_rows, length_filled, filled_fits}
 use Rattle.rules.specs.Laws.Prefix.{words_counted}
 use Rattle.kernel.specs.Held.{Front}
-use Rattle.kernel.specs.Parsed.{TheoryLists, theory_lists, TheoryHeld, Roomy, Exact, CountsFit, zero_from, wiped, counts_of, theory_tables}
+use Rattle.kernel.specs.Parsed.{TheoryLists, theory_lists, TheoryHeld, CountsFit, zero_from, wiped, counts_of, theory_tables}
 use Rattle.kernel.specs.declared.tables.Counts.{Counts}
 use Rattle.kernel.specs.RuleRows.{length_rule_cells, rule_var_row_long}
 
@@ -116,17 +116,3 @@ module _ {text : List ℕ} {t : TheoryLists} (T : Theory) (h : TheoryHeld text t
 
 pub longer : (n : ℕ) (ys l : List ℕ) → n ≤ length l → length ys ≡ length (take n l) → length (ys ++ drop n l) ≡ length l
 longer n ys l h e = omega (arith, length-append ys (drop n l), e, length-take-le n l h, length-drop n l)
-
--- the named lengths of tables that have them at least
-pub exact_fronts : (t : TheoryLists) → Roomy t →
-    Exact (theory_lists (take (2 * SORTS) t.sorts) (take (4 * SYMBOLS) t.symbols) (take (ARGUMENTS * SYMBOLS) t.inputs) (take (6 * RULES) t.rules)
-    (take (3 * RULEVARS * RULES) t.rule_vars) (take PATTERNS t.patterns))
-exact_fronts t r =
-    record {
-      sorts = length-take-le (2 * SORTS) t.sorts r.sorts;
-      symbols = length-take-le (4 * SYMBOLS) t.symbols r.symbols;
-      inputs = length-take-le (ARGUMENTS * SYMBOLS) t.inputs r.inputs;
-      rules = length-take-le (6 * RULES) t.rules r.rules;
-      rule_vars = length-take-le (3 * RULEVARS * RULES) t.rule_vars r.rule_vars;
-      patterns = length-take-le PATTERNS t.patterns r.patterns;
-    }

@@ -134,9 +134,6 @@ module _ {text cells symbols inputs : List ℕ} {known : ℕ} {table₀ : List �
   pub here : Premising text cells (symbolic p.held.0) p.so_far p.zs P used table M at v w
   here = i.goes (symbolic p.held.0) p.so_far p.zs p.held.1 p.reads p.holds
 
-  pub vars_long : length table ≡ length table₀
-  vars_long = here.reads.held.long ∙ sym p.reads.held.long
-
   module _ {item : Item} {a b : ℕ} (h : at < length cells) (e : item ≡ item_at cells at) (g : item ≡ Part a b) where
     pub next_here : Next text cells at here.left a b
     next_here = next_list here.walk h e g

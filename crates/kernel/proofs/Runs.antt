@@ -20,7 +20,7 @@ use Rattle.questions.specs.declared.Question.{Question}
 use Rattle.questions.specs.declared.Refused.{Refused}
 use Rattle.questions.specs.Numbers.{number_of, detail_of}
 use Rattle.sexp.specs.declared.sexp.Form.{Form}
-use Rattle.kernel.specs.Parsed.{TheoryLists, TheoryHeld, Formed, Declaring, DeclaredAs, Taken, Exact, Run, counts_of, no_counts, theory_of, verdict, CountsFit, wiped, theory_tables}
+use Rattle.kernel.specs.Parsed.{TheoryLists, TheoryHeld, Formed, DeclaredAs, Taken, Exact, Run, counts_of, no_counts, theory_of, verdict, CountsFit, wiped, theory_tables}
 use Rattle.kernel.specs.declared.tables.Counts.{Counts}
 use Rattle.kernel.proofs.Laid.{counts_are, within_of, laid_of, laid_held}
 
@@ -106,9 +106,6 @@ module _ {text w₀ w : List ℕ} {t : TheoryLists} {held : Counts} {forms at : 
     pub formed : Formed text (take form.cells v) it.form
     unfolding encode
     formed = record { encoded = it.holds.cells ∙ append-nil (encode it.form); spelt = it.holds.spelt.0 }
-
-    pub declaring : Declaring text (take form.cells v) t held
-    declaring = record { x = it.form; formed = formed; T = g.T; held = g.theory; short = g.going.legible.short }
 
     module _ (t' : TheoryLists) (m : Counts) {d : Result Unit Question} (s : DeclaredAs text t' m g.T (declare it.form g.T) d) where
       pub declared_no : {q : Question} → d ≡ Err q → Run text t' m (through declare (read text) 0 no_theory) (Err (record { question = q; form = forms }))
