@@ -70,6 +70,7 @@ fn show_tables<W: Write>(out: &mut W, tables: &Tables<'_>) -> io::Result<()>
 
 fn main(rt: HostRuntime) -> io::Result<()> {
     let alloc = rt.alloc();
+    // as sexp_main reads its input: the two share no crate that knows of input, and a new one for four lines is no plainer
     let mut text = Vec::new(alloc);
     rt.reader().take(INPUT as u64).read_to_end(&mut text)?;
     // no clause says how much a reader gives
