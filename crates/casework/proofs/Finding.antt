@@ -2,14 +2,15 @@
 use mathlib.Core.Path.{◌≡◌, refl, sym, ap, ◌∙◌, subst}
 use mathlib.Core.Bool.{Bool, true, false, not}
 use Rattle.std.specs.Prelude.{Option, Some as some, None as nothing}
-use mathlib.Core.List.{List, [], ◌∷◌, ◌++◌}
+use mathlib.Core.List.{List, [], ◌∷◌, ◌++◌, append_assoc}
 use Rattle.std.specs.Option.{is_some as is_there}
 use Prim.Native.Nat.{ℕ, zero, suc, ◌+◌, ◌-◌, ◌<◌, ◌≤◌}
 use native.Mathlib.Omega.{arith}
 use native.Mathlib.Numerals.{add-one}
 use native.Mathlib.Decide.{dec_lt}
-use lib.ListN.{length, get_or, take, drop, drop_of_length-le, length-append, get_or-append}
-use lib.Seq.{drop-cons, get_or-append-add}
+use lib.ListN.{length, get_or, take, drop, drop_of_length-le, length-append, length-drop, get_or-append}
+use lib.Seq.{drop-cons, get_or-append-add, take-append_seam}
+use denote.Ref.{Bor}
 use Rattle.rules.specs.Text.{same}
 use Rattle.rules.specs.Out.{ok, refuse, ask}
 use Rattle.rules.specs.Sexp.{Sexp, Sexps, nil, cons, count, item, rest}
@@ -19,12 +20,14 @@ use Rattle.rules.specs.State.{State}
 use Rattle.rules.specs.Invert.{Case, case_named, read_case, read_cases}
 use Rattle.rules.specs.Laws.Store.{then_ok, then_refuse}
 use Rattle.rules.specs.Laws.Sexp.{rest_item}
+use Rattle.sexp.specs.Encode.{encode, encodes}
+use Rattle.sexp.specs.Spelt.{Spells}
 use Rattle.sexp.specs.Items.{Holds, item_at, behind}
-use Rattle.sexp.specs.ItemLaws.{at_room, some_cells}
 use Rattle.sexp.specs.Never.{never}
 use Rattle.sexp.specs.WalkLaws.{Walk, walk_start, walk_over, walk_rest}
 use Rattle.reading.specs.Laws.Walks.{Here, here, go_on}
-use Rattle.casework.specs.Cases.{no_case, CaseItem, CaseFirst, CasesFirst, CaseHere, CaseFound, Kept, Naming, CasesAre}
+use Rattle.casework.specs.Cases.{no_case, CaseItem, CaseFirst, CasesIn, CaseHere, CaseFound, Kept, Naming, CasesAre}
+use Rattle.casework.specs.declared.distinct.NameTree.{NameTree}
 
 -- The case of a name -------------------------------------------------------------------------------------------------------------------------
 
@@ -45,61 +48,87 @@ named_over : (cs : List Case) (name : List ℕ) (k : ℕ) → length cs ≤ k �
 unfolding case_named
 named_over cs name k l = ap (λ (ds : List Case). case_named ds name) (drop_of_length-le cs l)
 
--- the loop: what is left decides
-pub record Seeking {text cells : List ℕ} {many : ℕ} (g : CasesFirst text cells many) (name : List ℕ) (at k : ℕ) : Type 0 where
-  pub walk : Walk text cells at (rest g.xs k)
-  pub whole : case_named g.cs name ≡ case_named (drop k g.cs) name
-
 rest_zero : (xs : Sexps) → xs ≡ rest xs 0
 unfolding rest
 rest_zero nil = refl
 rest_zero (cons x xs) = refl
 
-module _ {text cells : List ℕ} {many : ℕ} (g : CasesFirst text cells many) (name : List ℕ) where
-  pub seeking_start : Seeking g name 0 0
-  seeking_start = record { walk = subst (λ (z : Sexps). Walk text cells 0 z) (rest_zero g.xs) (walk_start g.holds); whole = refl }
+count_rest : (xs : Sexps) (k : ℕ) → k ≤ count xs → rest xs k ≡ nil → count xs ≤ k
+unfolding count rest
+count_rest nil k l e = omega arith
+count_rest (cons x xs) zero l e = never cc
+count_rest (cons x xs) (suc k) l e = let z = count_rest xs k (omega arith) e in omega arith
 
-  module _ {at k : ℕ} (s : Seeking g name at k) where
-    pub seeking_over : many ≤ k → case_named g.cs name ≡ nothing
-    seeking_over l = s.whole ∙ named_over g.cs name k (omega (arith, g.length_is, l))
+cons_more : (xs : Sexps) (k : ℕ) (x : Sexp) (ys : Sexps) → rest xs k ≡ cons x ys → k < count xs
+unfolding count rest
+cons_more nil k x ys e = never cc
+cons_more (cons z zs) zero x ys e = omega arith
+cons_more (cons z zs) (suc k) x ys e = let l = cons_more zs k x ys e in omega arith
 
-    module _ (l : k < many) where
-      item_walk : Walk text cells at (cons (item g.xs k) (rest g.xs (suc k)))
-      item_walk = subst (λ (z : Sexps). Walk text cells at z) (rest_item g.xs k (omega (arith, l, g.few))) s.walk
+-- the loop: what is left decides
+pub record Seeking {text cells : List ℕ} (g : CasesIn text cells) (name : List ℕ) (at : ℕ) : Type 0 where
+  pub k : ℕ
+  pub walk : Walk text cells at (rest g.xs k)
+  pub few : k ≤ count g.xs
+  pub whole : case_named g.cs name ≡ case_named (drop k g.cs) name
 
-      pub seeking_inside : at < length cells
-      seeking_inside = omega (arith, at_room item_walk.here, some_cells (item g.xs k))
+module _ {text cells : List ℕ} (g : CasesIn text cells) (name : List ℕ) where
+  pub seeking_start : Seeking g name 0
+  seeking_start = record {
+    k = 0;
+    walk = subst (λ (z : Sexps). Walk text cells 0 z) (rest_zero g.xs) (walk_start g.holds);
+    few = omega arith;
+    whole = refl;
+  }
 
-      pub seeking_first : CaseFirst text (take (length cells - at) (drop at cells))
-      seeking_first =
-          record { vs = g.vs; x = item g.xs k; ys = rest g.xs (suc k); c = get_or g.cs k no_case; holds = walk_rest item_walk; case = g.cases k l }
+  module _ {at : ℕ} (s : Seeking g name at) where
+    pub seeking_over : length cells ≤ at → case_named g.cs name ≡ nothing
+    seeking_over l = s.whole ∙ named_over g.cs name s.k (let n = count_rest g.xs s.k s.few (walk_over s.walk l) in omega (arith, g.many, n))
 
-      here_now : Here text cells at (rest g.xs k)
+    module _ (l : at < length cells) where
+      pub left_now : s.k < count g.xs
+      left_now = let h = here s.walk l in cons_more g.xs s.k h.x h.ys h.is
+
+      pub item_walk : Walk text cells at (cons (item g.xs s.k) (rest g.xs (suc s.k)))
+      item_walk = subst (λ (z : Sexps). Walk text cells at z) (rest_item g.xs s.k left_now) s.walk
+
+      abbrev pub seeking_first : CaseFirst text (take (length cells - at) (drop at cells))
+      seeking_first = record {
+        vs = g.vs;
+        x = item g.xs s.k;
+        ys = rest g.xs (suc s.k);
+        c = get_or g.cs s.k no_case;
+        holds = walk_rest item_walk;
+        case = g.cases s.k left_now;
+      }
+
+      here_now : Here text cells at (rest g.xs s.k)
       here_now =
-          record { x = item g.xs k; ys = rest g.xs (suc k); is = rest_item g.xs k (omega (arith, l, g.few)); walk = item_walk; holds = walk_rest item_walk }
+          record { x = item g.xs s.k; ys = rest g.xs (suc s.k); is = rest_item g.xs s.k left_now; walk = item_walk; holds = walk_rest item_walk }
 
-      module _ (b : Bool) (is : (f : CaseFirst text (take (length cells - at) (drop at cells))) → b ≡ same f.c.name name) where
-        same_is : b ≡ same (get_or g.cs k no_case).name name
-        same_is = is (record { vs = g.vs; x = item g.xs k; ys = rest g.xs (suc k); c = get_or g.cs k no_case; holds = walk_rest item_walk; case = g.cases k l })
-
-        pub seeking_found : b ≡ true → CaseHere g.vs text cells g.cs name at
-        seeking_found e =
+      module _ {b : Bool} (is : b ≡ same (get_or g.cs s.k no_case).name name) where
+        pub seeking_found : b ≡ true → {part : List ℕ} → part ≡ take (length cells - at) (drop at cells) → CaseHere g.vs text cells g.cs name part
+        seeking_found e f =
             record {
-              c = get_or g.cs k no_case;
-              is = s.whole ∙ named_yes g.cs name k (omega (arith, g.length_is, l)) (sym same_is ∙ e);
-              x = item g.xs k;
-              ys = rest g.xs (suc k);
+              c = get_or g.cs s.k no_case;
+              is = s.whole ∙ named_yes g.cs name s.k (let n = left_now in omega (arith, g.many, n)) (sym is ∙ e);
+              x = item g.xs s.k;
+              ys = rest g.xs (suc s.k);
+              p = at;
+              from = f;
               walk = item_walk;
-              there = seeking_inside;
-              case = g.cases k l;
+              there = l;
+              case = g.cases s.k left_now;
             }
 
-        pub seeking_on : {next : ℕ} → b ≡ false → next ≡ behind at (item_at cells at) → Seeking g name next (k + 1)
+        pub seeking_on : {next : ℕ} → b ≡ false → next ≡ behind at (item_at cells at) → Seeking g name next
         unfolding here_now
         seeking_on {next} e n =
             record {
-              walk = subst (λ (j : ℕ). Walk text cells next (rest g.xs j)) (sym (add-one k)) (go_on here_now n).walk;
-              whole = s.whole ∙ named_no g.cs name k (omega (arith, g.length_is, l)) (sym same_is ∙ e);
+              k = s.k + 1;
+              walk = subst (λ (j : ℕ). Walk text cells next (rest g.xs j)) (sym (add-one s.k)) (go_on here_now n).walk;
+              few = let n = left_now in omega (arith, n);
+              whole = s.whole ∙ named_no g.cs name s.k (let n = left_now in omega (arith, g.many, n)) (sym is ∙ e);
             }
 
 -- One case a name ------------------------------------------------------------------------------------------------------------------------------
@@ -142,19 +171,63 @@ module _ (S : State) (x : Sexp) (ys : Sexps) (cs : List Case) (M : Made) where
     unfolding read_cases
     read_more a = then_ok (read_case S x M) c M _ e ∙ then_ok _ tt M _ (ap (λ (b : Bool). ask 41 (not b) M) a)
 
+-- The items in front ------------------------------------------------------------------------------------------------------------------------------
+
+unfoldable pub front : Sexps → ℕ → Sexps
+front nil k = nil
+front (cons x xs) zero = nil
+front (cons x xs) (suc k) = cons x (front xs k)
+
+pub front_count : (xs : Sexps) (k : ℕ) → k ≤ count xs → count (front xs k) ≡ k
+unfolding count front
+front_count nil k l = omega arith
+front_count (cons x xs) zero l = refl
+front_count (cons x xs) (suc k) l = ap suc (front_count xs k (omega arith))
+
+pub front_item : (xs : Sexps) (k i : ℕ) → i < k → item (front xs k) i ≡ item xs i
+unfolding item front
+front_item nil k i l = refl
+front_item (cons x xs) zero i l = absurd (omega (arith, l))
+front_item (cons x xs) (suc k) zero l = refl
+front_item (cons x xs) (suc k) (suc i) l = front_item xs k i (omega arith)
+
+front_spells : (text : List ℕ) (xs : Sexps) (k : ℕ) → Spells text xs → Spells text (front xs k)
+unfolding front
+front_spells text nil k s = tt
+front_spells text (cons x xs) zero s = tt
+front_spells text (cons x xs) (suc k) s = (s.0, front_spells text xs k s.1)
+
+front_encodes : (xs : Sexps) (k : ℕ) → encodes xs ≡ encodes (front xs k) ++ encodes (rest xs k)
+unfolding front rest encode
+front_encodes nil k = refl
+front_encodes (cons x xs) zero = refl
+front_encodes (cons x xs) (suc k) = ap (λ (ys : List ℕ). encode x ++ ys) (front_encodes xs k) ∙ sym (append_assoc (encode x) (encodes (front xs k)) (encodes (rest xs k)))
+
+pub front_holds : {text cells : List ℕ} {at : ℕ} (xs : Sexps) (k : ℕ) → Holds text cells xs → Walk text cells at (rest xs k) → Holds text (take at cells) (front xs k)
+front_holds {text} {cells} {at} xs k h w =
+    let e : cells ≡ encodes (front xs k) ++ encodes (rest xs k) = h.cells ∙ front_encodes xs k in
+    let n : at ≡ length (encodes (front xs k)) =
+    omega (arith, ap length e ∙ length-append (encodes (front xs k)) (encodes (rest xs k)), length-drop at cells, ap length w.here.lies, w.here.high) in
+    record {
+      cells = (λ i. take (n i) (e i)) ∙ take-append_seam (encodes (front xs k)) (encodes (rest xs k));
+      spelt = front_spells text xs k h.spelt;
+    }
+
 -- these are read; the rest is left
-pub record Casing (S : State) (xs : Sexps) (text cells places links : List ℕ) (at k : ℕ) : Type 0 where
+pub record Casing (S : State) (xs : Sexps) (text cells : List ℕ) (t : NameTree) (at : ℕ) : Type 0 where
+  pub k : ℕ
   pub cs : List Case
   pub walk : Walk text cells at (rest xs k)
   pub whole : (M : Made) → read_cases S xs [] M ≡ read_cases S (rest xs k) cs M
   pub many : length cs ≡ k
   pub few : k ≤ count xs
   pub cases : (i : ℕ) → i < k → CaseItem S.vars (item xs i) (get_or cs i no_case)
-  pub kept : Kept text places links cs
+  pub kept : Kept t cs
 
-pub casing_start : (S : State) (xs : Sexps) {text cells places links : List ℕ} → Holds text cells xs → Kept text places links [] → Casing S xs text cells places links 0 0
+pub casing_start : (S : State) (xs : Sexps) {text cells : List ℕ} {t : NameTree} → Holds text cells xs → Kept t [] → Casing S xs text cells t 0
 casing_start S xs {text} {cells} h w =
     record {
+      k = 0;
       cs = [];
       walk = subst (λ (z : Sexps). Walk text cells 0 z) (rest_zero xs) (walk_start h);
       whole = λ M. ap (λ (z : Sexps). read_cases S z [] M) (rest_zero xs);
@@ -164,24 +237,12 @@ casing_start S xs {text} {cells} h w =
       kept = w;
     }
 
-count_rest : (xs : Sexps) (k : ℕ) → k ≤ count xs → rest xs k ≡ nil → count xs ≤ k
-unfolding count rest
-count_rest nil k l e = omega arith
-count_rest (cons x xs) zero l e = never cc
-count_rest (cons x xs) (suc k) l e = let z = count_rest xs k (omega arith) e in omega arith
-
-cons_more : (xs : Sexps) (k : ℕ) (x : Sexp) (ys : Sexps) → rest xs k ≡ cons x ys → k < count xs
-unfolding count rest
-cons_more nil k x ys e = never cc
-cons_more (cons z zs) zero x ys e = omega arith
-cons_more (cons z zs) (suc k) x ys e = let l = cons_more zs k x ys e in omega arith
-
-module _ {S : State} {xs : Sexps} {text cells places links : List ℕ} {at k : ℕ} (h : Casing S xs text cells places links at k) where
+module _ {S : State} {xs : Sexps} {text cells : List ℕ} {t : NameTree} {at : ℕ} (h : Casing S xs text cells t at) where
   pub casing_over : length cells ≤ at → CasesAre S xs
   unfolding read_cases
   casing_over l =
       let e = walk_over h.walk l in
-      let n = count_rest xs k h.few e in
+      let n = count_rest xs h.k h.few e in
       let f = h.few in
       record {
         cs = h.cs;
@@ -191,24 +252,36 @@ module _ {S : State} {xs : Sexps} {text cells places links : List ℕ} {at k : �
       }
 
   -- what `is_taken` asks
-  abbrev pub casing_first : Holds text cells xs → Naming text cells places links k
-  casing_first w = record { first = record { vs = S.vars; xs = xs; cs = h.cs; holds = w; length_is = h.many; few = h.few; cases = h.cases }; kept = h.kept }
+  abbrev pub casing_first : Holds text cells xs → t.text.now ≡ text → {part : List ℕ} → part ≡ take at cells → Naming t part
+  casing_first w e f = record {
+    first = record {
+      vs = S.vars;
+      xs = front xs h.k;
+      cs = h.cs;
+      holds = rw (e, f) (front_holds xs h.k w h.walk);
+      many = h.many ∙ sym (front_count xs h.k h.few);
+      cases = λ i l.
+          let j : i < h.k = omega (arith, l, front_count xs h.k h.few) in
+          subst (λ (x : Sexp). CaseItem S.vars x (get_or h.cs i no_case)) (sym (front_item xs h.k i j)) (h.cases i j);
+    };
+    kept = h.kept;
+  }
 
   module _ (l : at < length cells) where
-    pub casing_here : Here text cells at (rest xs k)
+    pub casing_here : Here text cells at (rest xs h.k)
     casing_here = here h.walk l
 
-    left : k < count xs
-    left = cons_more xs k casing_here.x casing_here.ys casing_here.is
+    left : h.k < count xs
+    left = cons_more xs h.k casing_here.x casing_here.ys casing_here.is
 
-    step_rest : rest xs k ≡ cons (item xs k) (rest xs (suc k))
-    step_rest = rest_item xs k left
+    step_rest : rest xs h.k ≡ cons (item xs h.k) (rest xs (suc h.k))
+    step_rest = rest_item xs h.k left
 
-    same_item : casing_here.x ≡ item xs k
-    same_item = let z : cons casing_here.x casing_here.ys ≡ cons (item xs k) (rest xs (suc k)) = sym casing_here.is ∙ step_rest in cc
+    same_item : casing_here.x ≡ item xs h.k
+    same_item = let z : cons casing_here.x casing_here.ys ≡ cons (item xs h.k) (rest xs (suc h.k)) = sym casing_here.is ∙ step_rest in cc
 
-    same_rest : casing_here.ys ≡ rest xs (suc k)
-    same_rest = let z : cons casing_here.x casing_here.ys ≡ cons (item xs k) (rest xs (suc k)) = sym casing_here.is ∙ step_rest in cc
+    same_rest : casing_here.ys ≡ rest xs (suc h.k)
+    same_rest = let z : cons casing_here.x casing_here.ys ≡ cons (item xs h.k) (rest xs (suc h.k)) = sym casing_here.is ∙ step_rest in cc
 
     opened : (M : Made) → read_cases S xs [] M ≡ read_cases S (cons casing_here.x casing_here.ys) h.cs M
     opened M = h.whole M ∙ ap (λ (z : Sexps). read_cases S z h.cs M) casing_here.is
@@ -221,13 +294,14 @@ module _ {S : State} {xs : Sexps} {text cells places links : List ℕ} {at k : �
       casing_twice b a t M = opened M ∙ read_twice S casing_here.x casing_here.ys h.cs M c (e M) (sym a ∙ t)
 
       pub casing_more : (b : Bool) → b ≡ any (λ (d : Case). same d.name c.name) h.cs → b ≡ false → CaseItem S.vars casing_here.x c →
-          {next : ℕ} {places' links' : List ℕ} → Kept text places' links' (h.cs ++ (c ∷ [])) → next ≡ behind at (item_at cells at) →
-          Casing S xs text cells places' links' next (k + 1)
+          {next : ℕ} {u : NameTree} → Kept u (h.cs ++ (c ∷ [])) → next ≡ behind at (item_at cells at) → Casing S xs text cells u next
       casing_more b a t i {next} w n =
+          let k = h.k in
           let j : k + 1 ≡ suc k = add-one k in
           let lk = left in
           let len : length (h.cs ++ (c ∷ [])) ≡ k + 1 = length-append h.cs (c ∷ []) ∙ ap (λ (z : ℕ). z + 1) h.many in
           record {
+            k = k + 1;
             cs = h.cs ++ (c ∷ []);
             walk = subst (λ (z : Sexps). Walk text cells next z) (same_rest ∙ ap (rest xs) (sym j)) (go_on casing_here n).walk;
             whole = λ M. opened M ∙ read_more S casing_here.x casing_here.ys h.cs M c (e M) (sym a ∙ t)
@@ -241,7 +315,7 @@ module _ {S : State} {xs : Sexps} {text cells places links : List ℕ} {at k : �
             kept = w;
           }
         where
-          last : (y : ℕ) → y ≡ k → CaseItem S.vars casing_here.x c → CaseItem S.vars (item xs y) (get_or (h.cs ++ (c ∷ [])) y no_case)
+          last : (y : ℕ) → y ≡ h.k → CaseItem S.vars casing_here.x c → CaseItem S.vars (item xs y) (get_or (h.cs ++ (c ∷ [])) y no_case)
           last y e i =
               let z : y ≡ length h.cs + 0 = omega (arith, e, h.many) in
               let d : get_or (h.cs ++ (c ∷ [])) y no_case ≡ c =
@@ -251,12 +325,12 @@ module _ {S : State} {xs : Sexps} {text cells places links : List ℕ} {at k : �
 
 -- What `is_among` learns --------------------------------------------------------------------------------------------------------------------------
 
-module _ {text cells : List ℕ} {many : ℕ} (g : CasesFirst text cells many) (name : List ℕ) (r : Option ℕ) (f : CaseFound g.vs text cells g.cs name r) where
+module _ {text cells : List ℕ} (g : CasesIn text cells) (name : List ℕ) (r : Option (Bor (List ℕ))) (f : CaseFound g.vs text cells g.cs name r) where
   pub found_is : {b : Bool} → b ≡ is_there r → b ≡ any (λ (d : Case). same d.name name) g.cs
   found_is e = e ∙ go r refl
     where
-      go : (o : Option ℕ) → r ≡ o → is_there o ≡ any (λ (d : Case). same d.name name) g.cs
+      go : (o : Option (Bor (List ℕ))) → r ≡ o → is_there o ≡ any (λ (d : Case). same d.name name) g.cs
       go (some p) q =
-          let h : CaseHere g.vs text cells g.cs name p = subst (λ (z : Option ℕ). CaseFound g.vs text cells g.cs name z) q f in
+          let h : CaseHere g.vs text cells g.cs name p.now = subst (λ (z : Option (Bor (List ℕ))). CaseFound g.vs text cells g.cs name z) q f in
           any_there g.cs name h.c h.is
-      go nothing q = any_nowhere g.cs name (subst (λ (z : Option ℕ). CaseFound g.vs text cells g.cs name z) q f)
+      go nothing q = any_nowhere g.cs name (subst (λ (z : Option (Bor (List ℕ))). CaseFound g.vs text cells g.cs name z) q f)

@@ -1,5 +1,5 @@
 -- Whether a case has a name, by the tree of their names or by a look at each; and the names of one more. Assumes nothing.
-use mathlib.Core.Path.{◌≡◌, refl, sym, ap, ◌∙◌, subst}
+use mathlib.Core.Path.{◌≡◌, refl, sym, ap, ◌∙◌}
 use mathlib.Core.Bool.{Bool, true, false, true≢false}
 use mathlib.Core.List.{List, [], ◌∷◌, ◌++◌}
 use Prim.Native.Nat.{ℕ, zero, suc, ◌+◌, ◌-◌, ◌*◌, ◌<◌, ◌≤◌}
@@ -12,7 +12,8 @@ use Rattle.rules.specs.Text.{same}
 use Rattle.rules.specs.Find.{any}
 use Rattle.rules.specs.Invert.{Case}
 use Rattle.rules.specs.Laws.Text.{same_self, same_equal}
-use Rattle.casework.specs.Distinct.{name_of, Tree, IsMet, Entered, EnteredAs}
+use Rattle.casework.specs.Distinct.{name_of, TreeIn, IsMet, Entered, EnteredIn, SameNames}
+use Rattle.casework.specs.declared.distinct.NameTree.{NameTree}
 use Rattle.casework.specs.Cases.{no_case, Named, Kept, Naming, TakenAs}
 
 -- A case with the name -------------------------------------------------------------------------------------------------------------------------
@@ -45,88 +46,96 @@ zero_cell zero c = refl
 zero_cell (suc n) zero = refl
 zero_cell (suc n) (suc c) = zero_cell n c
 
-pub kept_none : (text : List ℕ) (n : ℕ) → n ≤ LENGTH → Kept text (replicate n 0) (replicate n 0) []
-kept_none text n l = record {
-  even = refl;
-  short = let e = length-replicate {A = ℕ} n 0 in omega (arith, e, l);
-  named = λ t r. record {
-    tree = record {
-      even = refl;
-      room = r;
-      known = λ c. let e = zero_cell n c in omega (arith, e);
-      rise = λ c p. let e = zero_cell n c in absurd (omega (arith, e, p));
-      low = λ m s h. absurd (omega (arith, s, h));
-      high = λ m s h. absurd (omega (arith, s, h));
-      there = λ m s h. absurd (omega (arith, s, h));
-    };
-    each = λ k h. absurd (omega (arith, h));
-  };
-}
+module _ (n : ℕ) (t : NameTree) (p : t.places.now ≡ replicate n 0) (k : t.links.now ≡ replicate n 0) (m : t.many ≡ 0) where
+  no_link : (c : ℕ) → ◌≡◌ {A = ℕ} (get_or t.links.now c 0) 0
+  no_link c = ap (λ (xs : List ℕ). get_or xs c 0) k ∙ zero_cell n c
 
--- What `is_taken` learns -----------------------------------------------------------------------------------------------------------------------
-
-module _ {text cells places links : List ℕ} {many : ℕ} (g : Naming text cells places links many) where
-  one_more_lem : (c : Case) → length (g.first.cs ++ (c ∷ [])) ≡ many + 1
-  one_more_lem c = length-append g.first.cs (c ∷ []) ∙ ap (λ (z : ℕ). z + 1) g.first.length_is
-
-  -- the tables have no room for one more
-  pub taken_among : {r : Bool} (name : List ℕ) → r ≡ any (λ (d : Case). same d.name name) g.first.cs →
-      (length text ≤ LENGTH → 2 * many + 4 ≤ length places → ⊥) → TakenAs text g.first.cs name places links r
-  taken_among name e q = record {
-    is = e;
-    more = λ y c m. record {
-      even = g.kept.even;
-      short = g.kept.short;
-      named = λ t l. absurd (q t (let z = one_more_lem c in omega (arith, z, l)));
+  pub kept_none : n ≤ LENGTH → Kept t []
+  kept_none l = record {
+    short = let e = ap length p ∙ length-replicate {A = ℕ} n 0 in omega (arith, e, l);
+    few = omega (arith, m);
+    named = λ _ r. record {
+      tree = record {
+        even = ap length k ∙ sym (ap length p);
+        room = omega (arith, r);
+        known = λ c. let e = no_link c in omega (arith, e);
+        rise = λ c h. let e = no_link c in absurd (omega (arith, e, h));
+        low = λ i s h. absurd (omega (arith, s, h, m));
+        high = λ i s h. absurd (omega (arith, s, h, m));
+        there = λ i s h. absurd (omega (arith, s, h, m));
+      };
+      many = sym m;
+      each = λ i h. absurd (omega (arith, h));
     };
   }
 
+-- What `is_taken` learns -----------------------------------------------------------------------------------------------------------------------
+
+module _ {t : NameTree} {cells : List ℕ} (g : Naming t cells) where
+  -- the tables have no room for one more
+  pub taken_among : {r : Bool} (name : List ℕ) → r ≡ any (λ (d : Case). same d.name name) g.first.cs →
+      (length t.text.now ≤ LENGTH → 2 * t.many + 4 ≤ length t.places.now → ⊥) → TakenAs t g.first.cs name r
+  taken_among name e q = record {
+    is = e;
+    more = λ y c m. record { short = g.kept.short; few = g.kept.few; named = λ a l. absurd (q a l) };
+  }
+
   -- they have
-  module _ (t : length text ≤ LENGTH) (l : 2 * many + 4 ≤ length places) where
-    pub names_now : Named text places links g.first.cs
-    names_now = g.kept.named t (let z = g.first.length_is in omega (arith, z, l))
+  module _ (a : length t.text.now ≤ LENGTH) (l : 2 * t.many + 4 ≤ length t.places.now) where
+    names_now : Named t g.first.cs
+    names_now = g.kept.named a l
 
-    pub tree_now : Tree text places links many
-    tree_now = subst (λ (n : ℕ). Tree text places links n) g.first.length_is names_now.tree
+    pub tree_now : TreeIn t
+    tree_now = names_now.tree
 
-    is_met : (name : List ℕ) → IsMet text places many name → true ≡ any (λ (d : Case). same d.name name) g.first.cs
+    is_met : (name : List ℕ) → IsMet t.text.now t.places.now t.many name → true ≡ any (λ (d : Case). same d.name name) g.first.cs
     is_met name m =
-        let z = g.first.length_is in
+        let z = names_now.many in
         let s = m.some in
         let f = m.few in
         let k : m.n - 1 < length g.first.cs = omega (arith, z, s, f) in
         let j : m.n ≡ m.n - 1 + 1 = omega (arith, s) in
-        any_at name g.first.cs (m.n - 1) k (sym (names_now.each (m.n - 1) k) ∙ ap (name_of text places) (sym j) ∙ m.is)
+        any_at name g.first.cs (m.n - 1) k (sym (names_now.each (m.n - 1) k) ∙ ap (name_of t.text.now t.places.now) (sym j) ∙ m.is)
 
-    module _ {places' links' : List ℕ} (a : length places' ≡ length places) (b : length links' ≡ length links) (name : List ℕ) (e : Entered text places places' links' many name) where
+    module _ {u : NameTree} (w : SameNames t u) (name : List ℕ) (e : Entered t.text.now t.places.now u.places.now u.links.now t.many u.many name) where
       is_new_lem : false ≡ any (λ (d : Case). same d.name name) g.first.cs
       is_new_lem =
           any_none name g.first.cs
-          (λ k h q. let z = g.first.length_is in e.new (k + 1) (omega arith) (omega (arith, z, h)) (names_now.each k h ∙ q))
+          (λ k h q. let z = names_now.many in e.new (k + 1) (omega arith) (omega (arith, z, h)) (names_now.each k h ∙ q))
 
-      each_more : (c : Case) → c.name ≡ name → (k : ℕ) → k < length (g.first.cs ++ (c ∷ [])) → name_of text places' (k + 1) ≡ (get_or (g.first.cs ++ (c ∷ [])) k no_case).name
+      same_name : (n : ℕ) → name_of u.text.now u.places.now n ≡ name_of t.text.now u.places.now n
+      same_name n = λ i. name_of (w.text i).now u.places.now n
+
+      each_more : (c : Case) → c.name ≡ name → (k : ℕ) → k < length (g.first.cs ++ (c ∷ [])) →
+          name_of t.text.now u.places.now (k + 1) ≡ (get_or (g.first.cs ++ (c ∷ [])) k no_case).name
       each_more c m k h = elim (dec_lt k (length g.first.cs)) [
         | yes p ↦
-            e.others (k + 1) (let z = g.first.length_is in omega (arith, z, p)) ∙ names_now.each k p
+            e.others (k + 1) (let z = names_now.many in omega (arith, z, p)) ∙ names_now.each k p
             ∙ ap (λ (d : Case). d.name) (sym (get_or-append g.first.cs (c ∷ []) no_case k p))
-        | no q ↦ last (let z = one_more_lem c in let y = g.first.length_is in omega (arith, z, y, q, h))
+        | no q ↦ last (let z = length-append g.first.cs (c ∷ []) in omega (arith, z, q, h))
       ]
         where
-          last : k ≡ length g.first.cs + 0 → name_of text places' (k + 1) ≡ (get_or (g.first.cs ++ (c ∷ [])) k no_case).name
+          last : k ≡ length g.first.cs + 0 → name_of t.text.now u.places.now (k + 1) ≡ (get_or (g.first.cs ++ (c ∷ [])) k no_case).name
           last i =
-              let z = g.first.length_is in
-              let j : k + 1 ≡ many + 1 = omega (arith, i, z) in
-              ap (name_of text places') j ∙ e.own ∙ sym m
+              let z = names_now.many in
+              let j : k + 1 ≡ t.many + 1 = omega (arith, i, z) in
+              ap (name_of t.text.now u.places.now) j ∙ e.own ∙ sym m
               ∙ ap (λ (d : Case). d.name) (sym (ap (λ (w : ℕ). get_or (g.first.cs ++ (c ∷ [])) w no_case) i ∙ get_or-append-add g.first.cs (c ∷ []) 0 no_case))
 
-      kept_more : (c : Case) → c.name ≡ name → Kept text places' links' (g.first.cs ++ (c ∷ []))
+      tree_more : TreeIn u
+      tree_more = rw (w.text, e.count) e.tree
+
+      kept_more : (c : Case) → c.name ≡ name → Kept u (g.first.cs ++ (c ∷ []))
       kept_more c m = record {
-        even = b ∙ g.kept.even ∙ sym a;
-        short = let s = g.kept.short in omega (arith, a, s);
-        named = λ _ _. record { tree = subst (λ (n : ℕ). Tree text places' links' n) (sym (one_more_lem c)) e.tree; each = each_more c m };
+        short = let s = g.kept.short in omega (arith, w.long, s);
+        few = omega (arith, e.count, w.long, l);
+        named = λ _ _. record {
+          tree = tree_more;
+          many = let z = names_now.many in let n = length-append g.first.cs (c ∷ []) in omega (arith, z, n, e.count);
+          each = λ k h. same_name (k + 1) ∙ each_more c m k h;
+        };
       }
 
-    pub taken_by_tree : {places' links' : List ℕ} → length places' ≡ length places → length links' ≡ length links → (name : List ℕ) (r : Bool) →
-        EnteredAs text places places' links' many name r → TakenAs text g.first.cs name places' links' r
-    taken_by_tree a b name true m = record { is = is_met name m; more = λ y. absurd (true≢false y) }
-    taken_by_tree a b name false e = record { is = is_new_lem a b name e; more = λ y c m. kept_more a b name e c m }
+    pub taken_by_tree : {u : NameTree} → SameNames t u → (name : List ℕ) (r : Bool) → EnteredIn t u name r → TakenAs u g.first.cs name r
+    taken_by_tree w name true m = record { is = is_met name m; more = λ y. absurd (true≢false y) }
+    taken_by_tree w name false e = record { is = is_new_lem w name e; more = λ y c m. kept_more w name e c m }

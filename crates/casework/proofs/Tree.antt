@@ -157,7 +157,7 @@ module _ {text places links : List ℕ} {many : ℕ} (t : Tree text places links
       get_or-set_other (set places (2 * (many + 1)) start) (2 * (many + 1) + 1) i end 0 (λ q. omega (arith, q, h))
       ∙ get_or-set_other places (2 * (many + 1)) i start 0 (λ q. omega (arith, q, h))
 
-  placed_long : length placed ≡ length places
+  pub placed_long : length placed ≡ length places
   placed_long = length-set (set places (2 * (many + 1)) start) (2 * (many + 1) + 1) end ∙ length-set places (2 * (many + 1)) start
 
   cell_there : cell < length links
@@ -216,5 +216,8 @@ module _ {text places links : List ℕ} {many : ℕ} (t : Tree text places links
     there = by_node (λ (n : ℕ). Comes linked (name_of text placed n) 0 0 n) own_comes old_comes;
   }
 
-  pub entered : Entered text places placed linked many (between text start end)
-  entered = record { new = f.new; tree = tree_more; own = own_name; others = other_name }
+  pub entered : Entered text places placed linked many (many + 1) (between text start end)
+  entered = record { new = f.new; tree = tree_more; own = own_name; others = other_name; count = refl }
+
+  pub linked_long : length linked ≡ length links
+  linked_long = length-set links cell (many + 1)

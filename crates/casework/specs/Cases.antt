@@ -1,5 +1,6 @@
 -- The cases of `invert` as items of a form: which item is which case, and what their readers answer. Assumes nothing.
-use Rattle.std.specs.Prelude.{◌≡◌, Bool, false, List, [], ◌∷◌, ◌++◌, ℕ, ◌+◌, ◌*◌, ◌<◌, ◌≤◌, length, get_or, drop, Some as some, None as nothing, Option, Result, Ok, Err}
+use Rattle.std.specs.Prelude.{◌≡◌, Bool, false, List, [], ◌∷◌, ◌++◌, ℕ, ◌+◌, ◌-◌, ◌*◌, ◌<◌, ◌≤◌, length, get_or, take, drop, Some as some, None as nothing, Option, Result, Ok, Err}
+use denote.Ref.{Bor}
 use Rattle.rules.specs.Limits.{LENGTH, VARIABLES}
 use Rattle.rules.specs.Out.{ok, refuse}
 use Rattle.rules.specs.Lex.{letters}
@@ -15,7 +16,8 @@ use Rattle.sexp.specs.WalkLaws.{Walk}
 use Rattle.reading.specs.declared.reader.Reader.{Reader}
 use Rattle.reading.specs.Given.{VarsItem, VarsItems}
 use Rattle.reading.specs.Items.{index_in, vars_in}
-use Rattle.casework.specs.Distinct.{name_of, Tree}
+use Rattle.casework.specs.Distinct.{name_of, TreeIn}
+use Rattle.casework.specs.declared.distinct.NameTree.{NameTree}
 use Rattle.casework.specs.declared.cases.CaseRead.{CaseRead}
 use Rattle.questions.specs.declared.Question.{Question}
 use Rattle.questions.specs.Numbers.{number_of, detail_of}
@@ -43,15 +45,14 @@ pub record CaseFirst (text cells : List ℕ) : Type 0 where
   pub holds : Holds text cells (cons x ys)
   pub case : CaseItem vs x c
 
--- the first items are cases, so many
-pub record CasesFirst (text cells : List ℕ) (many : ℕ) : Type 0 where
+-- the cells are those of cases
+pub record CasesIn (text cells : List ℕ) : Type 0 where
   pub vs : List Var
   pub xs : Sexps
   pub cs : List Case
   pub holds : Holds text cells xs
-  pub length_is : length cs ≡ many
-  pub few : many ≤ count xs
-  pub cases : (k : ℕ) → k < many → CaseItem vs (item xs k) (get_or cs k no_case)
+  pub many : length cs ≡ count xs
+  pub cases : (k : ℕ) → k < count xs → CaseItem vs (item xs k) (get_or cs k no_case)
 
 -- what is read: the item of a case, and those of all
 abbrev pub ReadsCase : Reader → List ℕ → Type 0
@@ -79,42 +80,45 @@ CaseAs S text x before cells (Err e) = ((M : Made) → read_case S x M ≡ refus
 
 -- The case of a name ---------------------------------------------------------------------------------------------------------------
 
--- it is the item at a place
-pub record CaseHere (vs : List Var) (text cells : List ℕ) (cs : List Case) (name : List ℕ) (p : ℕ) : Type 0 where
+-- it is the item at a place: the first one of these cells
+pub record CaseHere (vs : List Var) (text cells : List ℕ) (cs : List Case) (name part : List ℕ) : Type 0 where
   pub c : Case
   pub is : case_named cs name ≡ some c
   pub x : Sexp
   pub ys : Sexps
+  pub p : ℕ
+  pub from : part ≡ take (length cells - p) (drop p cells)
   pub walk : Walk text cells p (cons x ys)
   pub there : p < length cells
   pub case : CaseItem vs x c
 
-abbrev pub CaseFound : List Var → List ℕ → List ℕ → List Case → List ℕ → Option ℕ → Type 0
-CaseFound vs text cells cs name (some p) = CaseHere vs text cells cs name p
+abbrev pub CaseFound : List Var → List ℕ → List ℕ → List Case → List ℕ → Option (Bor (List ℕ)) → Type 0
+CaseFound vs text cells cs name (some part) = CaseHere vs text cells cs name part.now
 CaseFound vs text cells cs name nothing = case_named cs name ≡ nothing
 
 -- All cases ------------------------------------------------------------------------------------------------------------------------
 
 -- their names are in a tree of names
-pub record Named (text places links : List ℕ) (cs : List Case) : Type 0 where
-  pub tree : Tree text places links (length cs)
-  pub each : (k : ℕ) → k < length cs → name_of text places (k + 1) ≡ (get_or cs k no_case).name
+pub record Named (t : NameTree) (cs : List Case) : Type 0 where
+  pub tree : TreeIn t
+  pub many : length cs ≡ t.many
+  pub each : (k : ℕ) → k < length cs → name_of t.text.now t.places.now (k + 1) ≡ (get_or cs k no_case).name
 
--- they are where its tables have room
-pub record Kept (text places links : List ℕ) (cs : List Case) : Type 0 where
-  pub even : length links ≡ length places
-  pub short : length places ≤ LENGTH
-  pub named : length text ≤ LENGTH → 2 * length cs + 2 ≤ length places → Named text places links cs
+-- they are where it has room for one more
+pub record Kept (t : NameTree) (cs : List Case) : Type 0 where
+  pub short : length t.places.now ≤ LENGTH
+  pub few : 2 * t.many ≤ length t.places.now
+  pub named : length t.text.now ≤ LENGTH → 2 * t.many + 4 ≤ length t.places.now → Named t cs
 
--- the first items are cases, so many, and their names are kept
-pub record Naming (text cells places links : List ℕ) (many : ℕ) : Type 0 where
-  pub first : CasesFirst text cells many
-  pub kept : Kept text places links first.cs
+-- the cells are those of cases, and their names are kept
+pub record Naming (t : NameTree) (cells : List ℕ) : Type 0 where
+  pub first : CasesIn t.text.now cells
+  pub kept : Kept t first.cs
 
 -- whether one of them has the name; if none has, the name of one more is kept
-pub record TakenAs (text : List ℕ) (cs : List Case) (name places links : List ℕ) (taken : Bool) : Type 0 where
+pub record TakenAs (t : NameTree) (cs : List Case) (name : List ℕ) (taken : Bool) : Type 0 where
   pub is : taken ≡ any (λ (d : Case). same d.name name) cs
-  pub more : taken ≡ false → (c : Case) → c.name ≡ name → Kept text places links (cs ++ (c ∷ []))
+  pub more : taken ≡ false → (c : Case) → c.name ≡ name → Kept t (cs ++ (c ∷ []))
 
 -- all items are cases, one a name
 pub record CasesAre (S : State) (xs : Sexps) : Type 0 where

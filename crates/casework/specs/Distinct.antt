@@ -1,6 +1,7 @@
 -- Names of a text, told apart by a tree. Node n, counted from 1, is a name: two cells of `places` say where it begins and ends, two cells of `links` lead to the nodes below it,
 -- 0 where there is none; cell 0 leads to the first node. A name goes from node to node by its bits until it meets itself or a cell that is 0. Assumes nothing.
 use Rattle.std.specs.Prelude.{◌≡◌, Bool, true, false, List, ℕ, suc, ◌+◌, ◌-◌, ◌*◌, ◌/◌, ◌%◌, ◌^◌, ◌<◌, ◌≤◌, length, get_or, take, drop, Option, Some as some, None as nothing}
+use Rattle.casework.specs.declared.distinct.NameTree.{NameTree}
 
 -- which of two ways a name takes at a depth: the bits of its letters, the lowest first
 unfoldable pub turn_of : List ℕ → ℕ → ℕ
@@ -60,12 +61,32 @@ SpotAs text places links many name nothing = IsMet text places many name
 SpotAs text places links many name (some cell) = IsFree text places links many name cell
 
 -- the name came in as one more node; the others are as they were
-pub record Entered (text places places' links' : List ℕ) (many : ℕ) (name : List ℕ) : Type 0 where
+pub record Entered (text places places' links' : List ℕ) (many many' : ℕ) (name : List ℕ) : Type 0 where
   pub new : Unmet text places many name
   pub tree : Tree text places' links' (many + 1)
   pub own : name_of text places' (many + 1) ≡ name
   pub others : (n : ℕ) → n ≤ many → name_of text places' n ≡ name_of text places n
+  pub count : many' ≡ many + 1
 
-abbrev pub EnteredAs : List ℕ → List ℕ → List ℕ → List ℕ → ℕ → List ℕ → Bool → Type 0
-EnteredAs text places places' links' many name true = IsMet text places many name
-EnteredAs text places places' links' many name false = Entered text places places' links' many name
+abbrev pub EnteredAs : List ℕ → List ℕ → List ℕ → List ℕ → ℕ → ℕ → List ℕ → Bool → Type 0
+EnteredAs text places places' links' many many' name true = IsMet text places many name
+EnteredAs text places places' links' many many' name false = Entered text places places' links' many many' name
+
+-- The tree as it is lent -------------------------------------------------------------------------------------------------------------------------
+
+abbrev pub TreeIn : NameTree → Type 0
+TreeIn t = Tree t.text.now t.places.now t.links.now t.many
+
+abbrev pub SpotIn : NameTree → List ℕ → Option ℕ → Type 0
+SpotIn t name r = SpotAs t.text.now t.places.now t.links.now t.many name r
+
+abbrev pub EnteredIn : NameTree → NameTree → List ℕ → Bool → Type 0
+EnteredIn t u name r = EnteredAs t.text.now t.places.now u.places.now u.links.now t.many u.many name r
+
+-- the text and the cells are those that were lent, and as many
+pub record SameNames (t u : NameTree) : Type 0 where
+  pub text : u.text ≡ t.text
+  pub places : u.places.ghost_name ≡ t.places.ghost_name
+  pub links : u.links.ghost_name ≡ t.links.ghost_name
+  pub long : length u.places.now ≡ length t.places.now
+  pub wide : length u.links.now ≡ length t.links.now

@@ -4,10 +4,10 @@ ghost use Rattle.rules.specs.Limits.{VARIABLES};
 ghost use Rattle.rules.specs.Text.{same};
 ghost use Rattle.rules.specs.Find.{any};
 ghost use Rattle.rules.specs.Invert.{Case};
-ghost use Rattle.casework.specs.Cases.{ReadsCase, ReadsCases, CaseFirst, CasesFirst, CaseAs, CaseFound, Kept, Naming, TakenAs, CasesAs};
+ghost use Rattle.casework.specs.Cases.{ReadsCase, ReadsCases, CaseFirst, CasesIn, CaseAs, CaseFound, Kept, Naming, TakenAs, CasesAs};
 ghost use Rattle.casework.specs.Distinct.{between};
 
-use crate::distinct::enter;
+use crate::distinct::NameTree;
 use questions::Question;
 use reading::names::index as index_in;
 use reading::reader::Reader;
@@ -75,69 +75,60 @@ fn is_named(text: &[u8], cells: &[u32], name: &[u8]) -> bool
     same(&text[start..end], name)
 }
 
-// The first of so many cases with that name, by its place.
-pub fn find_case(text: &[u8], cells: &[u32], many: usize, name: &[u8]) -> Option<usize>
-    requires { CasesFirst text.now cells.now many }
-    ensures { (g : CasesFirst text.now cells.now many) →
-        CaseFound g.vs text.now cells.now g.cs name.now result }
+// The case with that name, the first one of those in the cells: the cells from it on.
+pub fn find_case<'a>(text: &[u8], cells: &'a [u32], name: &[u8]) -> Option<&'a [u32]>
+    requires { CasesIn text.now cells.now }
+    ensures { (g : CasesIn text.now cells.now) → CaseFound g.vs text.now cells.now g.cs name.now result }
 {
-    let mut at = 0;
-    for _ in 0..many {
-        if is_named(text, &cells[at..], name) {
-            return Some(at);
+    for item in items::all(cells) {
+        if is_named(text, item, name) {
+            return Some(item);
         }
-        at = items::after(cells, at);
     }
     None
 }
 
-// Whether one of so many cases has that name, each looked at.
-fn is_among(text: &[u8], cells: &[u32], many: usize, name: &[u8]) -> bool
-    requires { CasesFirst text.now cells.now many }
-    ensures { (g : CasesFirst text.now cells.now many) →
+// Whether one of the cases in the cells has that name, each looked at.
+fn is_among(text: &[u8], cells: &[u32], name: &[u8]) -> bool
+    requires { CasesIn text.now cells.now }
+    ensures { (g : CasesIn text.now cells.now) →
         result ≡ any (λ (d : Case). same d.name name.now) g.cs }
 {
-    find_case(text, cells, many, name).is_some()
+    find_case(text, cells, name).is_some()
 }
 
-// Whether one of so many cases has the name between two places; if not, it comes into the tree of their names, where that has room.
-fn is_taken(
-    text: &[u8],
-    cells: &[u32],
-    many: usize,
-    start: usize,
-    end: usize,
-    places: &mut [u32],
-    links: &mut [u32],
-) -> bool
-    requires { Naming text.now cells.now places.old links.old many × (many ≤ length cells.now) × (start ≤ end) × (end ≤ length text.now) }
-    ensures { (g : Naming text.now cells.now places.old links.old many) →
-        TakenAs text.now g.first.cs (between text.now start end) places.new links.new result }
+// Whether one of the cases in the cells has the name between two places; if not, it comes into the tree of their names, where that has room.
+fn is_taken(names: &mut NameTree<'_, '_>, cells: &[u32], start: usize, end: usize) -> bool
+    requires { Naming names.old cells.now × (start ≤ end) × (end ≤ length names.old.text.now) }
+    ensures same_text { names.new.text ≡ names.old.text }
+    ensures taken { (g : Naming names.old cells.now) →
+        TakenAs names.new g.first.cs (between names.old.text.now start end) result }
 {
+    let text = names.text;
     if text.len() > LENGTH {
-        return is_among(text, cells, many, &text[start..end]);
+        return is_among(text, cells, &text[start..end]);
     }
-    if places.len() / 2 <= many + 1 {
-        return is_among(text, cells, many, &text[start..end]);
+    if names.places.len() / 2 <= names.many + 1 {
+        return is_among(text, cells, &text[start..end]);
     }
-    enter(text, start, end, many, places, links)
+    names.enter(start, end)
 }
 
-// All cases are read, with cells for a tree of their names.
+// All cases are read, with a tree for their names, in which there is none.
 fn read_with(
     reader: &Reader<'_>,
     cells: &[u32],
-    places: &mut [u32],
-    links: &mut [u32],
+    names: &mut NameTree<'_, '_>,
 ) -> Result<(), Question>
-    requires { ReadsCases reader.now cells.now × Kept reader.now.text.now places.old links.old [] }
+    requires { ReadsCases reader.now cells.now × (names.old.text ≡ reader.now.text) × Kept names.old [] }
     ensures { (g : ReadsCases reader.now cells.now) → CasesAs g.S g.xs result }
 {
-    for (k, item) in items::all(cells).enumerate() {
+    for item in items::all(cells) {
         let mut out = [0u32; VARIABLES];
         let case = read_case(reader, item, &mut out)?;
         let end = lex::atom_end(reader.text, case.start);
-        if is_taken(reader.text, cells, k, case.start, end, places, links) {
+        let before = &cells[..cells.len() - item.len()];
+        if is_taken(names, before, case.start, end) {
             return Err(Question::Cases);
         }
     }
@@ -151,7 +142,13 @@ fn read_many(reader: &Reader<'_>, cells: &[u32]) -> Result<(), Question>
 {
     let mut places = [0u32; NAMECELLS];
     let mut links = [0u32; NAMECELLS];
-    read_with(reader, cells, &mut places, &mut links)
+    let mut names = NameTree {
+        text: reader.text,
+        places: &mut places,
+        links: &mut links,
+        many: 0,
+    };
+    read_with(reader, cells, &mut names)
 }
 
 // All cases are read: what is asked of each, and that no two have one name. A few names are compared by pairs: two cells are no room for a tree.
@@ -164,5 +161,11 @@ pub fn read_cases(reader: &Reader<'_>, cells: &[u32]) -> Result<(), Question>
     }
     let mut places = [0u32; 2];
     let mut links = [0u32; 2];
-    read_with(reader, cells, &mut places, &mut links)
+    let mut names = NameTree {
+        text: reader.text,
+        places: &mut places,
+        links: &mut links,
+        many: 0,
+    };
+    read_with(reader, cells, &mut names)
 }

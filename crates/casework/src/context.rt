@@ -27,7 +27,7 @@ use referring::source::Facts;
 use referring::substitutes::substitute_all;
 use rules::{FACTWORDS, TERMWORDS, VARIABLES, VARIABLEWORDS};
 use state::facts::{is_assumed, is_plain, judgment};
-use terms::patterns::build;
+use terms::patterns::Patterns;
 use terms::sets::{has, insert};
 use terms::store::{Store, Terms};
 use terms::substitute::substitute;
@@ -267,10 +267,14 @@ pub fn rule_premises<'a>(
         (rule_premises (renaming g.xs) (along (bindings (made_of store.old) renamed.now.theta.now 0)) (rule g.T renamed.now.rule).premises (made_of store.old)) grounds.entry result }
     ensures memo_unchanged { memo.new ≡ memo.old }
 {
+    let patterns = Patterns {
+        symbols,
+        words: rules.patterns,
+    };
     let mut place = words(rules.rows, renamed.rule).from;
     let mut more = grounds;
     for _ in 0..premise_count(rules.rows, renamed.rule) {
-        let premise = build(symbols, rules.patterns, store, renamed.bound, place)?;
+        let premise = patterns.build(store, renamed.bound, place)?;
         let t = substitute(store, renamed.theta, memo, premise.term)?;
         insert(&mut more.plain, t);
         place = premise.end;

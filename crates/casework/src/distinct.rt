@@ -1,8 +1,8 @@
 // Whether a name is among those met before. They are a tree that goes by the bits of names (specs/Distinct.antt): each name that one is compared with agrees with it in one
 // bit more, so that it costs by its own letters, whatever the names are.
-ghost use Rattle.std.specs.Prelude.{◌≡◌, ℕ, ◌+◌, ◌*◌, ◌<◌, ◌≤◌, length};
+ghost use Rattle.std.specs.Prelude.{◌≡◌, ◌+◌, ◌*◌, ◌<◌, ◌≤◌, length};
 ghost use Rattle.rules.specs.Limits.{LENGTH};
-ghost use Rattle.casework.specs.Distinct.{turn_of, between, Tree, SpotAs, EnteredAs};
+ghost use Rattle.casework.specs.Distinct.{turn_of, between, TreeIn, SpotIn, SameNames, EnteredIn};
 
 use sexp::names::same;
 
@@ -18,51 +18,57 @@ fn turn(name: &[u8], depth: usize) -> usize
     (letter >> (depth % 8)) % 2
 }
 
-// The name's way through the tree: to a cell where it can come in; none where it meets itself.
-fn seek(text: &[u8], name: &[u8], places: &[u32], links: &[u32]) -> Option<usize>
-    requires { (many : ℕ) × Tree text.now places.now links.now many }
-    ensures { (many : ℕ) → Tree text.now places.now links.now many →
-        SpotAs text.now places.now links.now many name.now result }
-{
-    let mut cell = 0;
-    let mut depth = 0;
-    // no count: it goes from node to node, as deep as the tree is
-    loop {
-        let node = links[cell] as usize;
-        if node == 0 {
-            return Some(cell);
-        }
-        let row = 2 * node;
-        let start = places[row] as usize;
-        let end = places[row + 1] as usize;
-        if same(&text[start..end], name) {
-            return None;
-        }
-        cell = row + turn(name, depth);
-        depth += 1;
-    }
+// The names that were met, between two places of the text each, as a tree in cells.
+#[derive(Drop)]
+pub struct NameTree<'t, 'a> {
+    pub text: &'t [u8],
+    pub places: &'a mut [u32],
+    pub links: &'a mut [u32],
+    pub many: usize,
 }
 
-// Whether the name between two places is one of so many in the tree; if not, it comes in.
-pub fn enter(
-    text: &[u8],
-    start: usize,
-    end: usize,
-    many: usize,
-    places: &mut [u32],
-    links: &mut [u32],
-) -> bool
-    requires tree { Tree text.now places.old links.old many × (2 * many + 4 ≤ length places.old) × (length places.old ≤ LENGTH) }
-    requires start_le_end { (start ≤ end) × (end ≤ length text.now) × (length text.now ≤ LENGTH) }
-    ensures { EnteredAs text.now places.old places.new links.new many (between text.now start end) result }
-{
-    let Some(cell) = seek(text, &text[start..end], places, links) else {
-        return true;
-    };
-    let node = many + 1;
-    let row = 2 * node;
-    places[row] = start as u32;
-    places[row + 1] = end as u32;
-    links[cell] = node as u32;
-    false
+impl NameTree<'_, '_> {
+    // The name's way through the tree: to a cell where it can come in; none where it meets itself.
+    fn seek(&self, name: &[u8]) -> Option<usize>
+        requires { TreeIn self.now }
+        ensures { SpotIn self.now name.now result }
+    {
+        let mut cell = 0;
+        let mut depth = 0;
+        // no count: it goes from node to node, as deep as the tree is
+        loop {
+            let node = self.links[cell] as usize;
+            if node == 0 {
+                return Some(cell);
+            }
+            let row = 2 * node;
+            let start = self.places[row] as usize;
+            let end = self.places[row + 1] as usize;
+            if same(&self.text[start..end], name) {
+                return None;
+            }
+            cell = row + turn(name, depth);
+            depth += 1;
+        }
+    }
+
+    // Whether the name between two places is one of those in the tree; if not, it comes in.
+    pub fn enter(&mut self, start: usize, end: usize) -> bool
+        requires tree { TreeIn self.old × (2 * self.old.many + 4 ≤ length self.old.places.now) × (length self.old.places.now ≤ LENGTH) }
+        requires start_le_end { (start ≤ end) × (end ≤ length self.old.text.now) × (length self.old.text.now ≤ LENGTH) }
+        ensures same_names { SameNames self.old self.new }
+        ensures entered { EnteredIn self.old self.new (between self.old.text.now start end) result }
+    {
+        let text = self.text;
+        let Some(cell) = self.seek(&text[start..end]) else {
+            return true;
+        };
+        let node = self.many + 1;
+        let row = 2 * node;
+        self.places[row] = start as u32;
+        self.places[row + 1] = end as u32;
+        self.links[cell] = node as u32;
+        self.many = node;
+        false
+    }
 }

@@ -19,7 +19,6 @@ use Rattle.rules.specs.TheoryTables.{filled}
 use Rattle.rules.specs.Invert.{Case, read_case, suit}
 use Rattle.rules.specs.Laws.Theory.{all_at}
 use Rattle.sexp.specs.Never.{never}
-use Rattle.sexp.specs.WalkLaws.{walk_rest}
 use Rattle.terms.specs.Sets.{holds}
 use Rattle.state.specs.Held.{VarCells}
 use Rattle.rules.specs.Laws.Row.{filled_fits}
@@ -50,17 +49,17 @@ take_front : (xs ys : List ℕ) (n : ℕ) → n ≡ length xs → take n (xs ++ 
 take_front [] ys n e = ap (λ (k : ℕ). take k ys) e
 take_front (x ∷ xs) ys n e = ap (λ (k : ℕ). take k (x ∷ (xs ++ ys))) e ∙ ap (λ (zs : List ℕ). x ∷ zs) (take_front xs ys (length xs) refl)
 
-module _ {goals text vars rulevars : List ℕ} {count : ℕ} {cells : List ℕ} {p r need : ℕ} (g : CaseVarsGiven goals text vars rulevars count cells p r need) where
+module _ {goals text vars rulevars : List ℕ} {count : ℕ} {cells : List ℕ} {r need : ℕ} (g : CaseVarsGiven goals text vars rulevars count cells r need) where
   -- what `read_case` asks
-  abbrev pub case_given : VarsItem goals text vars count (take (length cells - p) (drop p cells))
-  case_given = record { S = g.S; x = g.x; ys = g.ys; vars_are = g.vars_are; holds = walk_rest g.walk }
+  abbrev pub case_given : VarsItem goals text vars count cells
+  case_given = record { S = g.S; x = g.x; ys = g.ys; vars_are = g.vars_are; holds = g.holds }
 
   -- it is read
-  pub case_never : {A : Type 0} {q d : ℕ} → ((w : VarsItem goals text vars count (take (length cells - p) (drop p cells))) → (M : Made) → read_case w.S w.x M ≡ refuse q d M) → A
+  pub case_never : {A : Type 0} {q d : ℕ} → ((w : VarsItem goals text vars count cells) → (M : Made) → read_case w.S w.x M ≡ refuse q d M) → A
   case_never {q = q} {d} f = no_answer g.c q d [] (sym (item_reads g.S g.x g.c g.case []) ∙ f case_given [])
 
   module _ (out : List ℕ) {one : CaseRead}
-      (f : (w : VarsItem goals text vars count (take (length cells - p) (drop p cells))) → CaseIs w.S text w.x out one.start one.fact one.variables) where
+      (f : (w : VarsItem goals text vars count cells) → CaseIs w.S text w.x out one.start one.fact one.variables) where
     read : CaseIs g.S text g.x out one.start one.fact one.variables
     read = f case_given
 

@@ -3,12 +3,12 @@ use mathlib.Core.Path.{◌≡◌, refl, sym, ap, ◌∙◌, subst}
 use mathlib.Core.Bool.{Bool, true, false}
 use Rattle.std.specs.Prelude.{Option, None as nothing, Ok, Err}
 use mathlib.Core.List.{List, ◌++◌}
-use Prim.Native.Nat.{ℕ, ◌*◌, ◌<◌, ◌≤◌}
+use Prim.Native.Nat.{ℕ, ◌<◌}
 use native.Mathlib.Omega.{arith}
 use lib.Dec.{ltb}
 use lib.ListN.{length, get_or, replicate}
 use borrow.Author.Tests.{lt-ltb, ltb-true}
-use Rattle.rules.specs.Limits.{TERMS, FACTS, TERMWORDS, FACTWORDS}
+use Rattle.rules.specs.Limits.{TERMS, TERMWORDS, FACTWORDS}
 use Rattle.rules.specs.Out.{Out, then}
 use Rattle.rules.specs.Tree.{Tree}
 use Rattle.rules.specs.Store.{Made, substitute}
@@ -29,13 +29,11 @@ use Rattle.state.specs.declared.sizes.Sizes.{Sizes}
 use Rattle.cells.specs.declared.Span.{Span}
 use Rattle.state.specs.Rows.{hyps_span}
 use Rattle.state.specs.Entries.{part}
-use Rattle.state.specs.RowTables.{tabled_long}
-use Rattle.state.specs.FactLaws.{facts_tabled}
 use Rattle.referring.specs.Recall.{fact_of, Recalls}
 use Rattle.casework.specs.Context.{There, ContextGiven, ContextRead, all_of, PremisesRead}
 use Rattle.inversion.specs.InvertRules.{Judging, judged, judges, own_span, Verdict, verdict_of, JudgedBy, Having, has_case, meets, Met, MetBy}
 use Rattle.casework.specs.Laws.Facts.{recalls_grown}
-use Rattle.casework.specs.Laws.Rows.{row, lists_are}
+use Rattle.casework.specs.Laws.Rows.{row}
 use Rattle.inversion.proofs.InvertVerdicts.{Answer}
 use Rattle.inversion.proofs.InvertRests.{rests_all, said, said_is, asked}
 
@@ -45,24 +43,7 @@ abbrev span_by : List ℕ → ℕ → Bool → Span
 span_by facts i b = elim b as (λ (z : Bool). Span) [ true ↦ hyps_span facts i | false ↦ record { from = 0; end = 0 } ]
 
 module _ {facts lists : List ℕ} {n : Sizes} {I W : List ℕ} {m : Mark} (g : Recalls facts lists n I W m) where
-  pub facts_long : (length facts ≡ 6 * FACTS) × (n.facts ≤ FACTS)
-  facts_long = (tabled_long (facts_tabled g.recorded), (facts_tabled g.recorded).few)
-
   module _ (i : ℕ) {s : Span} (e : s ≡ own_span facts n i) where
-    pub own_low : s.from ≤ s.end
-    own_low = subst (λ (p : Span). p.from ≤ p.end) (sym e) (go (ltb i n.facts))
-      where
-        go : (b : Bool) → (span_by facts i b).from ≤ (span_by facts i b).end
-        go true = omega arith
-        go false = omega arith
-
-    pub own_high : s.end ≤ length lists
-    own_high = subst (λ (p : Span). p.end ≤ length lists) (sym e) (go (ltb i n.facts) refl)
-      where
-        go : (b : Bool) → ltb i n.facts ≡ b → (span_by facts i b).end ≤ length lists
-        go true q = let l = ltb-true i n.facts q in omega (arith, (row g l).inside, lists_are g)
-        go false q = omega arith
-
     pub own_is : i < n.facts → part lists s ≡ (fact_of g.S i).hyps
     own_is l = ap (part lists) e ∙ ap (λ (b : Bool). part lists (span_by facts i b)) (lt-ltb i n.facts l) ∙ (row g l).hyps
 

@@ -13,8 +13,8 @@ use Rattle.rules.specs.Theory.{rules_of}
 use Rattle.rules.specs.State.{State, Var}
 use Rattle.rules.specs.Invert.{Inversion, Names, read_cases, taken_vars, predicate_of, invert_rules}
 use Rattle.sexp.specs.Encode.{encodes}
-use Rattle.sexp.specs.Items.{Items, item_of, place}
-use Rattle.sexp.specs.NthItem.{has_items, nth_text, nth_part}
+use Rattle.sexp.specs.Items.{item_of, place}
+use Rattle.sexp.specs.NthItem.{nth_text, nth_part}
 use Rattle.sexp.specs.WalkLaws.{ListIs}
 use Rattle.sexp.specs.declared.items.Item.{Item}
 use Rattle.sexp.specs.declared.items.Item.TheVariants.{Atom, List as Part}
@@ -61,12 +61,9 @@ module _ {theory goals text symbols ins vars defs rules rulevars patterns facts 
       abbrev pub inner : List ℕ
       inner = take (y - x) (drop x cells)
 
-      -- what `read_cases` and `count` ask
+      -- what `read_cases` asks
       abbrev pub on_cases : VarsItems goals text vars n.vars inner
       on_cases = record { S = S; xs = on_list.items; vars_are = g.form.refers.reads.spelling.vars; holds = on_list.holds }
-
-      pub on_items : Items inner
-      on_items = has_items on_list.holds
 
       opened : On I W m whole I W m
           (then (read_cases S on_list.items [] (made I W m))
@@ -95,43 +92,38 @@ module _ {theory goals text symbols ins vars defs rules rulevars patterns facts 
         begun : On I W m whole I W m (then turns (λ N E. ok N.vars E))
         begun = on_pure _ opened (read.read (made I W m))
 
-        module _ {many : ℕ} (ct : (ys : Sexps) → inner ≡ encodes ys → many ≡ count ys) where
-          pub counted : count on_list.items ≡ many
-          counted = sym (ct on_list.items on_list.holds.cells)
-
-          -- what `all_rules` asks
-          abbrev pub on_turning : {taken : List ℕ} → length taken ≡ VARIABLEWORDS →
-              ((h : Recalls facts lists n I W m) (Z : Inversion) → Z.hypothesis ≡ tree I W m s → Z.judgment ≡ tree I W m j → Z.context ≡ context →
-              holds taken ≡ taken_vars h.S Z) →
-              Turning (names theory goals text symbols ins vars defs) (rule_lists theory rules rulevars patterns) facts lists n I W m inner many s j context taken (replicate VARIABLES 0) n.vars
-          on_turning wide t =
-              record {
-                S = S;
-                footings = g.footings;
-                xs = on_list.items;
-                inversion = Y;
-                names = N₀;
-                refers = g.form.refers;
-                ruled = g.form.ruled;
-                holds_items = on_list.holds;
-                items_are = counted;
-                cases_are = read.many ∙ counted;
-                cases = λ i z. read.cases i (omega (arith, z, counted));
-                hypothesis = refl;
-                hypothesis_there = g.hypothesis;
-                judgment = refl;
-                judgment_there = g.judgment;
-                context_is = refl;
-                context_there = g.known;
-                taken_is = t (refers_recalls g.form.refers) Y refl refl refl ∙ none_seen (taken_vars S Y);
-                taken_long = wide;
-                vars_are = sym (with_none S.vars (replicate VARIABLES 0) n.vars (sym g.form.refers.reads.spelling.vars.stand.many));
-                more = omega (arith, g.form.refers.reads.spelling.vars.stand.many);
-                few = g.form.refers.reads.spelling.vars.stand.few;
-                sorts_long = length-replicate {A = ℕ} VARIABLES 0;
-                others = none_made (length S.vars) n.vars VARIABLES;
-                low = g.below;
-              }
+        -- what `all_rules` asks
+        abbrev pub on_turning : {taken : List ℕ} → length taken ≡ VARIABLEWORDS →
+            ((h : Recalls facts lists n I W m) (Z : Inversion) → Z.hypothesis ≡ tree I W m s → Z.judgment ≡ tree I W m j → Z.context ≡ context →
+            holds taken ≡ taken_vars h.S Z) →
+            Turning (names theory goals text symbols ins vars defs) (rule_lists theory rules rulevars patterns) facts lists n I W m inner s j context taken (replicate VARIABLES 0) n.vars
+        on_turning wide t =
+            record {
+              S = S;
+              footings = g.footings;
+              xs = on_list.items;
+              inversion = Y;
+              names = N₀;
+              refers = g.form.refers;
+              ruled = g.form.ruled;
+              holds_items = on_list.holds;
+              cases_are = read.many;
+              cases = read.cases;
+              hypothesis = refl;
+              hypothesis_there = g.hypothesis;
+              judgment = refl;
+              judgment_there = g.judgment;
+              context_is = refl;
+              context_there = g.known;
+              taken_is = t (refers_recalls g.form.refers) Y refl refl refl ∙ none_seen (taken_vars S Y);
+              taken_long = wide;
+              vars_are = sym (with_none S.vars (replicate VARIABLES 0) n.vars (sym g.form.refers.reads.spelling.vars.stand.many));
+              more = omega (arith, g.form.refers.reads.spelling.vars.stand.many);
+              few = g.form.refers.reads.spelling.vars.stand.few;
+              sorts_long = length-replicate {A = ℕ} VARIABLES 0;
+              others = none_made (length S.vars) n.vars VARIABLES;
+              low = g.below;
+            }
 
         module _ {J X : List ℕ} {new : Mark} where
           pub on_stopped : {q d : ℕ} → Stopped I W J X m turns q d new → Stopped I W J X m whole q d new

@@ -35,7 +35,8 @@ use Rattle.referring.specs.Recall.{fact_of}
 use Rattle.casework.specs.Context.{plainly, plains_of, others_of, trees_of, PlainAdds, Adds, matching, rests_by}
 use Rattle.inversion.specs.InvertRules.{verdict_of}
 use Rattle.casework.specs.Laws.Facts.{plains_append, others_append, plain_more}
-use Rattle.inversion.proofs.InvertVerdicts.{Answer, no_entry}
+use Rattle.referring.specs.Laws.Refers.{no_entry}
+use Rattle.inversion.proofs.InvertVerdicts.{Answer}
 
 -- Numbers and trees --------------------------------------------------------------------------------------------------------------------------
 

@@ -91,9 +91,9 @@ pub record RulesLeft (S : State) (Y : Inversion) (I W : List ℕ) (old : Mark) (
   pub sorts_long : length sorts ≡ VARIABLES
   pub others : Unmade (length S.vars) count sorts
 
-module _ {theory goals text symbols ins vars defs rules rulevars patterns facts lists : List ℕ} {n : Sizes} {I W : List ℕ} {m : Mark} {cells : List ℕ} {many s j : ℕ}
+module _ {theory goals text symbols ins vars defs rules rulevars patterns facts lists : List ℕ} {n : Sizes} {I W : List ℕ} {m : Mark} {cells : List ℕ} {s j : ℕ}
     {context taken₀ sorts₀ : List ℕ} {base : ℕ}
-    (g : Turning (names theory goals text symbols ins vars defs) (rule_lists theory rules rulevars patterns) facts lists n I W m cells many s j context taken₀ sorts₀ base) where
+    (g : Turning (names theory goals text symbols ins vars defs) (rule_lists theory rules rulevars patterns) facts lists n I W m cells s j context taken₀ sorts₀ base) where
   abbrev pub whole : Out Made Names
   whole = invert_rules g.S g.inversion (rules_of g.S.theory (predicate_of g.inversion.hypothesis)) g.names (made I W m)
 
@@ -167,7 +167,7 @@ module _ {theory goals text symbols ins vars defs rules rulevars patterns facts 
 
       -- what `invert_rule` asks
       abbrev pub rounds_turning :
-          Turning (names theory goals text symbols ins vars defs) (rule_lists theory rules rulevars patterns) facts lists n J X now cells many s j context taken sorts count
+          Turning (names theory goals text symbols ins vars defs) (rule_lists theory rules rulevars patterns) facts lists n J X now cells s j context taken sorts count
       rounds_turning =
           record {
             S = g.S;
@@ -178,7 +178,6 @@ module _ {theory goals text symbols ins vars defs rules rulevars patterns facts 
             refers = refers_on g.refers (grown_grows h.on.grown) h.on.grown.good;
             ruled = g.ruled;
             holds_items = g.holds_items;
-            items_are = g.items_are;
             cases_are = g.cases_are;
             cases = g.cases;
             hypothesis = g.hypothesis ∙ sym (grown_tree h.on.grown s g.hypothesis_there);

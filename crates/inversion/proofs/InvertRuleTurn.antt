@@ -5,11 +5,12 @@ use Rattle.std.specs.Prelude.{None as nothing, Some as some, Option, Ok, Err}
 use mathlib.Core.List.{List, ◌++◌}
 use Prim.Native.Nat.{ℕ, ◌-◌, ◌<◌, ◌≤◌}
 use native.Mathlib.Omega.{arith}
+use denote.Ref.{Bor}
 use lib.ListN.{length, get_or, take, drop, replicate}
 use Rattle.rules.specs.Limits.{RULEVARS}
 use Rattle.rules.specs.Out.{ok, refuse, then}
 use Rattle.rules.specs.Find.{all, has}
-use Rattle.rules.specs.Sexp.{item}
+use Rattle.rules.specs.Sexp.{cons, item}
 use Rattle.rules.specs.Theory.{Theory, Rule, rule}
 use Rattle.rules.specs.Invert.{Case, case_named, suit, taken_vars, invert_rule}
 use Rattle.rules.specs.Laws.Theory.{RuleFormed, all_at, all_map}
@@ -31,7 +32,9 @@ use Rattle.questions.specs.declared.Question.TheVariants.{CaseVariables}
 use Rattle.questions.specs.Numbers.{number_of, detail_of}
 use Rattle.reading.specs.Laws.Lists.{vars_listed}
 use Rattle.referring.specs.Laws.Refers.{refers_recalls}
-use Rattle.casework.specs.Cases.{CasesFirst, CaseFound, CaseHere}
+use Rattle.sexp.specs.Items.{Holds}
+use Rattle.sexp.specs.WalkLaws.{walk_rest}
+use Rattle.casework.specs.Cases.{CasesIn, CaseFound, CaseHere}
 use Rattle.casework.specs.Context.{There}
 use Rattle.inversion.specs.InvertRules.{RuleVarsGiven, vars_with, CaseVarsGiven, CaseVarsAre, JudgedBy, Lacking, LackedBy, lacks, Having, has_case, Turning, TurnedBy}
 use Rattle.inversion.proofs.InvertNames.{with_length}
@@ -39,9 +42,9 @@ use Rattle.casework.specs.Laws.Rows.{and_true}
 use Rattle.inversion.proofs.InvertVerdicts.{Answer}
 use Rattle.inversion.proofs.InvertTurns.{turn_lacks, turn_unsuited, turn_taken, turn_has, new_is, taken_more}
 
-module _ {theory goals text symbols ins vars defs rules rulevars patterns facts lists : List ℕ} {n : Sizes} {I W : List ℕ} {m : Mark} {cells : List ℕ} {many s j : ℕ}
+module _ {theory goals text symbols ins vars defs rules rulevars patterns facts lists : List ℕ} {n : Sizes} {I W : List ℕ} {m : Mark} {cells : List ℕ} {s j : ℕ}
     {context taken sorts : List ℕ} {count : ℕ}
-    (g : Turning (names theory goals text symbols ins vars defs) (rule_lists theory rules rulevars patterns) facts lists n I W m cells many s j context taken sorts count)
+    (g : Turning (names theory goals text symbols ins vars defs) (rule_lists theory rules rulevars patterns) facts lists n I W m cells s j context taken sorts count)
     {r : ℕ} (l : r < n.rules) where
   abbrev pub R : Rule
   R = rule g.S.theory r
@@ -92,17 +95,8 @@ module _ {theory goals text symbols ins vars defs rules rulevars patterns facts 
       }
 
   -- what `find_case` asks
-  abbrev pub turn_cases : CasesFirst text cells many
-  turn_cases =
-      record {
-        vs = g.S.vars;
-        xs = g.xs;
-        cs = g.inversion.cases;
-        holds = g.holds_items;
-        length_is = g.cases_are;
-        few = omega (arith, g.items_are);
-        cases = g.cases;
-      }
+  abbrev pub turn_cases : CasesIn text cells
+  turn_cases = record { vs = g.S.vars; xs = g.xs; cs = g.inversion.cases; holds = g.holds_items; many = g.cases_are; cases = g.cases }
 
   pub hypothesis_low : Below (length g.S.vars) (tree I W m s)
   hypothesis_low = subst (Below (length g.S.vars)) g.hypothesis g.low
@@ -141,13 +135,13 @@ module _ {theory goals text symbols ins vars defs rules rulevars patterns facts 
     pub turn_high : a.end ≤ length theory
     turn_high = spans_high spans
 
-    module _ (q : Option ℕ) (h : (w : CasesFirst text cells many) → CaseFound w.vs text cells w.cs (take (a.end - a.from) (drop a.from theory)) q) where
+    module _ (q : Option (Bor (List ℕ))) (h : (w : CasesIn text cells) → CaseFound w.vs text cells w.cs (take (a.end - a.from) (drop a.from theory)) q) where
       pub looked : CaseFound g.S.vars text cells g.inversion.cases R.name.bytes q
       looked = subst (λ (b : List ℕ). CaseFound g.S.vars text cells g.inversion.cases b q) (spans_part spans) (h turn_cases)
 
       module _ (e : q ≡ nothing) where
         none_named : case_named g.inversion.cases R.name.bytes ≡ nothing
-        none_named = subst (λ (z : Option ℕ). CaseFound g.S.vars text cells g.inversion.cases R.name.bytes z) e looked
+        none_named = subst (λ (z : Option (Bor (List ℕ))). CaseFound g.S.vars text cells g.inversion.cases R.name.bytes z) e looked
 
         lacking : On I W m (invert_rule g.S g.inversion R g.names (made I W m)) I W m
             (then (lacks (vars_with g.S.vars sorts count) (tree I W m s) R (made I W m)) (λ us E. ok (record { vars = us; seen = g.names.seen }) E))
@@ -175,9 +169,9 @@ module _ {theory goals text symbols ins vars defs rules rulevars patterns facts 
 
       -- With a case ------------------------------------------------------------------------------------------------------------------------
 
-      module _ {p : ℕ} (e : q ≡ some p) where
-        pub here : CaseHere g.S.vars text cells g.inversion.cases R.name.bytes p
-        here = subst (λ (z : Option ℕ). CaseFound g.S.vars text cells g.inversion.cases R.name.bytes z) e looked
+      module _ {part : Bor (List ℕ)} (e : q ≡ some part) where
+        pub here : CaseHere g.S.vars text cells g.inversion.cases R.name.bytes part.now
+        here = subst (λ (z : Option (Bor (List ℕ))). CaseFound g.S.vars text cells g.inversion.cases R.name.bytes z) e looked
 
         abbrev pub c : Case
         c = here.c
@@ -191,7 +185,7 @@ module _ {theory goals text symbols ins vars defs rules rulevars patterns facts 
           turn_few = omega (arith, need_is, formed.few)
 
           -- what `case_vars` asks
-          abbrev pub turn_case : CaseVarsGiven goals text vars rulevars n.vars cells p r need
+          abbrev pub turn_case : CaseVarsGiven goals text vars rulevars n.vars part.now r need
           turn_case =
               record {
                 S = g.S;
@@ -202,15 +196,14 @@ module _ {theory goals text symbols ins vars defs rules rulevars patterns facts 
                 rule_vars_lem = turn_rule_vars need_is;
                 theory = refl;
                 few = turn_few;
-                walk = here.walk;
-                there = here.there;
+                holds = subst (λ (w : List ℕ). Holds text w (cons here.x here.ys)) (sym here.from) (walk_rest here.walk);
                 case = here.case;
               }
 
           news : all (λ v. not (holds taken v)) c.vars ≡ all (λ v. not (taken_vars g.S g.inversion v) && not (has g.names.seen v)) c.vars
           news = new_is (holds taken) (taken_vars g.S g.inversion) (has g.names.seen) c.vars g.taken_is
 
-          pub turn_missing : {q : Question} → ((h : CaseVarsGiven goals text vars rulevars n.vars cells p r need) →
+          pub turn_missing : {q : Question} → ((h : CaseVarsGiven goals text vars rulevars n.vars part.now r need) →
               (q ≡ CaseVariables) × (suit h.S.vars h.c.vars (rule h.S.theory r).vars && all (λ v. not (holds taken v)) h.c.vars ≡ false)) →
               Stopped I W I W m (invert_rule g.S g.inversion R g.names (made I W m)) (number_of q) (detail_of q) m
           turn_missing {q} u =
@@ -227,7 +220,7 @@ module _ {theory goals text symbols ins vars defs rules rulevars patterns facts 
                   (sym news ∙ sym (and_true (suit g.S.vars c.vars R.vars) (all (λ v. not (holds taken v)) c.vars) y) ∙ k)
 
           module _ {new-taken list : List ℕ} {fact : ℕ}
-              (u : (h : CaseVarsGiven goals text vars rulevars n.vars cells p r need) → CaseVarsAre h.S (rule h.S.theory r).vars h.c taken new-taken list fact) where
+              (u : (h : CaseVarsGiven goals text vars rulevars n.vars part.now r need) → CaseVarsAre h.S (rule h.S.theory r).vars h.c taken new-taken list fact) where
             abbrev pub are : CaseVarsAre g.S R.vars c taken new-taken list fact
             are = u turn_case
 

@@ -16,7 +16,6 @@ use Rattle.rules.specs.Reference.{fact_at}
 use Rattle.rules.specs.Laws.Theory.{All}
 use Rattle.rules.proofs.Laws.Below.{Below}
 use Rattle.sexp.specs.Items.{Holds}
-use Rattle.sexp.specs.WalkLaws.{Walk}
 use Rattle.questions.specs.declared.Row.{Row}
 use Rattle.questions.specs.declared.Question.{Question}
 use Rattle.questions.specs.declared.Question.TheVariants.{Earlier, CaseVariables, CaseJudgment, CaseHypotheses}
@@ -80,8 +79,8 @@ abbrev pub MadeAs : List Var → List RuleVar → List ℕ → List ℕ → ℕ 
 MadeAs vs rs sorts sorts' old new list (Ok _) = VarsMade vs rs sorts sorts' old list new
 MadeAs vs rs sorts sorts' old new list (Err row) = (M : Made) → make_vars rs (vars_with vs sorts old) M ≡ refuse 60 (row_number row) M
 
--- the case at a place, and the rule that it is of
-pub record CaseVarsGiven (goals text vars rulevars : List ℕ) (count : ℕ) (cells : List ℕ) (p r need : ℕ) : Type 0 where
+-- the case in front of the cells, and the rule that it is of
+pub record CaseVarsGiven (goals text vars rulevars : List ℕ) (count : ℕ) (cells : List ℕ) (r need : ℕ) : Type 0 where
   pub S : State
   pub c : Case
   pub x : Sexp
@@ -90,8 +89,7 @@ pub record CaseVarsGiven (goals text vars rulevars : List ℕ) (count : ℕ) (ce
   pub rule_vars_lem : RuleVarsGiven rulevars r need
   pub theory : rule_vars_lem.T ≡ S.theory
   pub few : need ≤ RULEVARS
-  pub walk : Walk text cells p (cons x ys)
-  pub there : p < length cells
+  pub holds : Holds text cells (cons x ys)
   pub case : CaseItem S.vars x c
 
 -- the case's variables suit the rule, and none is taken
@@ -262,7 +260,7 @@ has_case S xs k t R context i j = do
 -- From rule to rule ------------------------------------------------------------------------------------------------------------------------
 
 -- s, j: the hypothesis and the judgment by their numbers; taken: variables that a case must not have; count: all variables so far
-pub record Turning (K : Texts) (P : RuleLists) (facts lists : List ℕ) (n : Sizes) (I W : List ℕ) (m : Mark) (cells : List ℕ) (many s j : ℕ) (context taken sorts : List ℕ) (count : ℕ) : Type 0 where
+pub record Turning (K : Texts) (P : RuleLists) (facts lists : List ℕ) (n : Sizes) (I W : List ℕ) (m : Mark) (cells : List ℕ) (s j : ℕ) (context taken sorts : List ℕ) (count : ℕ) : Type 0 where
   pub S : State
   pub footings : List ℕ
   pub xs : Sexps
@@ -271,9 +269,8 @@ pub record Turning (K : Texts) (P : RuleLists) (facts lists : List ℕ) (n : Siz
   pub refers : Refers K facts footings lists n I W m S
   pub ruled : Ruled P n S.theory
   pub holds_items : Holds K.text cells xs
-  pub items_are : count_items xs ≡ many
-  pub cases_are : length inversion.cases ≡ many
-  pub cases : (k : ℕ) → k < many → CaseItem S.vars (item xs k) (get_or inversion.cases k no_case)
+  pub cases_are : length inversion.cases ≡ count_items xs
+  pub cases : (k : ℕ) → k < count_items xs → CaseItem S.vars (item xs k) (get_or inversion.cases k no_case)
   pub hypothesis : inversion.hypothesis ≡ tree I W m s
   pub hypothesis_there : s < m.terms
   pub judgment : inversion.judgment ≡ tree I W m j

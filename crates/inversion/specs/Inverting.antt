@@ -15,11 +15,11 @@ use Rattle.referring.specs.declared.source.Source.{Source}
 use Rattle.referring.specs.Sources.{source_names, rules_of}
 use Rattle.casework.specs.declared.context.Renamed.{Renamed}
 use Rattle.inversion.specs.declared.inverting.Inverting.{Inverting}
-use Rattle.inversion.specs.declared.inverting.Cases.{Cases}
 use Rattle.inversion.specs.declared.inverting.Variables.{Variables}
 use Rattle.inversion.specs.declared.inverting.Renaming.{Renaming}
+use Rattle.inversion.specs.declared.inverting.RuleVars.{RuleVars}
 use Rattle.inversion.specs.declared.invert.Inverted.{Inverted}
-use Rattle.inversion.specs.InvertRules.{CaseVarsGiven, KeptBy, Empty, Meeting, MetBy, Judging, JudgedBy, Verdict, Lacking, LackedBy, Having, Turning, TurnedBy}
+use Rattle.inversion.specs.InvertRules.{RuleVarsGiven, CaseVarsGiven, KeptBy, Empty, Meeting, MetBy, Judging, JudgedBy, Verdict, Lacking, LackedBy, Having, Turning, TurnedBy}
 use Rattle.inversion.specs.Inversions.{NamingForm, InvertForm, InvertingOn, InvertedOnBy, InvertedBy}
 
 -- Scratch --------------------------------------------------------------------------------------------------------------------------
@@ -33,9 +33,13 @@ ScratchKept x y = (y.map.now ≡ x.map.now) × (y.memo.now ≡ x.memo.now) × (y
 
 -- One rule -------------------------------------------------------------------------------------------------------------------------
 
--- the case at place p of the cells, of rule r
-abbrev pub CaseVarsIn : Inverting → Cases → ℕ → ℕ → ℕ → Type 0
-CaseVarsIn v c p r need = let x = v.source.reader in CaseVarsGiven x.goals.now x.text.now x.vars.now v.rules.vars.now x.n.vars c.cells.now p r need
+-- the variables of a rule
+abbrev pub RuleVarsIn : RuleVars → Type 0
+RuleVarsIn u = RuleVarsGiven u.rows.now u.rule u.count
+
+-- the case in front of the cells, of that rule
+abbrev pub CaseVarsIn : Inverting → List ℕ → RuleVars → Type 0
+CaseVarsIn v cells u = let x = v.source.reader in CaseVarsGiven x.goals.now x.text.now x.vars.now u.rows.now x.n.vars cells u.rule u.count
 
 abbrev pub KeptAs : Store → Store → List ℕ → List ℕ → Result (Unit {0}) Row → Type 0
 KeptAs s t list into r = KeptBy s.index.now s.words.now t.index.now t.words.now s.mark t.mark list into r
@@ -71,9 +75,9 @@ HavingIn v s own ids =
 
 -- From rule to rule ----------------------------------------------------------------------------------------------------------------
 
-abbrev pub TurningIn : Inverting → Cases → Store → Variables → Type 0
-TurningIn v c s x =
-    Turning (source_names v.source) (rules_of v.source v.rules) v.source.rows.now v.source.lists.now v.source.reader.n s.index.now s.words.now s.mark c.cells.now c.many v.hypothesis v.judgment v.context.now x.taken x.sorts x.count
+abbrev pub TurningIn : Inverting → List ℕ → Store → Variables → Type 0
+TurningIn v cells s x =
+    Turning (source_names v.source) (rules_of v.source v.rules) v.source.rows.now v.source.lists.now v.source.reader.n s.index.now s.words.now s.mark cells v.hypothesis v.judgment v.context.now x.taken x.sorts x.count
 
 abbrev pub TurnedAs : Store → Store → State → Inversion → Out Made Names → Variables → Variables → Result (Unit {0}) Question → Type 0
 TurnedAs s t S Y K x y r = TurnedBy s.index.now s.words.now t.index.now t.words.now s.mark t.mark S Y K y.taken y.sorts x.count y.count r

@@ -14,14 +14,13 @@ ghost use Rattle.inversion.specs.InvertRules.{vars_with};
 ghost use Rattle.inversion.specs.Inversions.{hypothesis_of, HypothesisAs, invert_on};
 ghost use Rattle.inversion.specs.Inverting.{NamesHypothesis, InvertsForm, InvertsOn, InvertedOnAs, InvertedAs};
 
-use crate::inverting::{Cases, Inverting, Variables};
+use crate::inverting::{Inverting, Variables};
 use casework::cases::read_cases;
 use kernel::rule_readers::Rules;
 use questions::Question;
-use reading::hyps::any_hyps;
 use reading::names::index as index_in;
 use referring::source::{Facts, Source};
-use referring::support::{Derived, no_support};
+use referring::support::{Derived, Support};
 use rules::{FACTS, TERMWORDS, VARIABLES, VARIABLEWORDS};
 use sexp::items;
 use sexp::items::Item;
@@ -69,7 +68,7 @@ pub fn put_made(vars: &mut [u32], sorts: &[u32], count: usize, end: usize)
         VarsHeld goals text vars.new end (vars_with vs sorts.now end) }
 {
     for v in count..end {
-        put_var(vars, v, sorts[v] as usize, 0, 0, 0);
+        put_var(vars, v, sorts[v] as usize, None, 0, 0);
     }
 }
 
@@ -99,10 +98,6 @@ impl Inverting<'_> {
         let inner = &cells[a..b];
         let reader = &self.source.reader;
         read_cases(reader, inner)?;
-        let cases = Cases {
-            cells: inner,
-            many: items::count(inner),
-        };
         let mut names = Variables {
             taken: [0; VARIABLEWORDS],
             sorts: [0; VARIABLES],
@@ -116,7 +111,7 @@ impl Inverting<'_> {
             self.context,
             &mut names.taken,
         );
-        self.all_rules(store, &cases, &mut names, memo, ids)?;
+        self.all_rules(store, inner, &mut names, memo, ids)?;
         sorts.copy_from_slice(&names.sorts);
         Ok(names.count)
     }
@@ -139,7 +134,7 @@ fn hypothesis(source: &Source<'_>, cells: &[u32], hyps: &mut [u64]) -> Result<us
         return Err(Question::Hypothesis);
     }
     let third = items::place(cells, 3);
-    any_hyps(source.reader.text, source.rows, n, &cells[third..], hyps)?;
+    source.reader.any_hyps(source.rows, &cells[third..], hyps)?;
     Ok(i)
 }
 
@@ -161,7 +156,7 @@ pub fn invert(
         InvertedAs store.old store.new g.S (invert g.S g.xs (made_of store.old)) sorts.old sorts.new result }
     ensures memo_unchanged { (memo.new ≡ memo.old) × (ids.new ≡ ids.old) }
 {
-    let mut support = no_support();
+    let mut support = Support::NONE;
     let fact = hypothesis(source, cells, &mut support.hyps)?;
     let fourth = items::place(cells, 4);
     let judgment = source.reader.judgment(store, &cells[fourth..])?;

@@ -13,11 +13,12 @@ pub struct Inverting<'a> {
     pub context: &'a [u32],
 }
 
-// The cases: their items, and how many they are.
+// The variables of a rule, in their table, and how many they are.
 #[derive(Clone, Copy)]
-pub struct Cases<'a> {
-    pub cells: &'a [u32],
-    pub many: usize,
+pub struct RuleVars<'a> {
+    pub rows: &'a [u32],
+    pub rule: usize,
+    pub count: usize,
 }
 
 // The variables that a case must not have, the sorts of those that were made, each at its number, and how many variables there are.

@@ -1,35 +1,36 @@
 // The case of a rule that meets the hypothesis, judged under the unifier: its fact concludes the judgment (questions 34 and 43), and rests on what is
 // allowed (question 44).
-ghost use Rattle.std.specs.Prelude.{◌≡◌, ◌*◌, ◌≤◌, length, get_or};
-ghost use Rattle.rules.specs.Limits.{FACTS};
+ghost use Rattle.std.specs.Prelude.{◌≡◌, get_or};
 ghost use Rattle.rules.specs.Tree.{var};
 ghost use Rattle.rules.specs.Theory.{rule};
 ghost use Rattle.rules.specs.Invert.{renaming};
 ghost use Rattle.terms.specs.Table.{tree};
+ghost use Rattle.terms.specs.declared.store.Terms.{Terms};
 ghost use Rattle.terms.specs.Lent.{SameTables, made_of};
 ghost use Rattle.terms.specs.Sets.{holds};
 ghost use Rattle.terms.specs.Theta.{bindings};
+ghost use Rattle.state.specs.Entries.{part};
+ghost use Rattle.referring.specs.Sources.{RecallsIn};
 ghost use Rattle.inversion.specs.InvertRules.{judged, judges, own_span, verdict_of};
 ghost use Rattle.inversion.specs.Inverting.{JudgingIn, JudgedAs, VerdictIn};
 
 use crate::inverting::Inverting;
 use casework::context::{Grounds, Renamed, context_facts, no_grounds, rests_on_all, rule_premises};
-use cells::Span;
 use questions::Question;
 use referring::source::Facts;
-use state::facts::{hyps as hyps_of, is_fact, judgment};
+use state::facts::is_fact;
 use terms::store::Store;
 use terms::substitute::substitute;
 
-// The entries of fact i's hypotheses; none where there is no such fact.
-fn own_hyps(facts: &Facts<'_>, i: usize) -> Span
-    requires { (length facts.now.rows.now ≡ 6 * FACTS) × (facts.now.n.facts ≤ FACTS) }
-    ensures { result ≡ own_span facts.now.rows.now facts.now.n i }
+// The hypotheses of fact i; none where there is no such fact.
+fn own_hyps<'a>(facts: &Facts<'a>, i: usize) -> &'a [u32]
+    requires { (t : Terms) × RecallsIn facts.now t }
+    ensures { result.now ≡ part facts.now.lists.now (own_span facts.now.rows.now facts.now.n i) }
 {
     if is_fact(facts.n, i) {
-        return hyps_of(facts.rows, i);
+        return facts.hyps(i);
     }
-    Span { from: 0, end: 0 }
+    &[]
 }
 
 // Questions 34, 43 and 44 of a case: its fact i is there, concludes t, and rests on what is allowed.
@@ -38,12 +39,7 @@ fn verdict(facts: &Facts<'_>, i: usize, t: usize, grounds: &Grounds<'_>) -> Resu
     ensures { (g : VerdictIn facts.now i t grounds.now.own.now) →
         result ≡ verdict_of g.given.S g.given.trees i (get_or g.given.trees t (var 0)) (holds grounds.now.plain) (holds grounds.now.fine) }
 {
-    if !is_fact(facts.n, i) {
-        return Err(Question::Earlier);
-    }
-    if judgment(facts.rows, i) != t {
-        return Err(Question::CaseJudgment);
-    }
+    facts.concludes(i, t)?;
     if !rests_on_all(facts, grounds) {
         return Err(Question::CaseHypotheses);
     }
@@ -69,10 +65,7 @@ impl Inverting<'_> {
         ensures memo_unchanged { (memo.new ≡ memo.old) × (ids.new ≡ ids.old) }
     {
         let facts = self.source.facts();
-        let span = own_hyps(&facts, i);
-        let from = span.from;
-        let end = span.end;
-        let none = no_grounds(&self.source.lists[from..end]);
+        let none = no_grounds(own_hyps(&facts, i));
         let symbols = self.source.reader.symbols;
         let first = rule_premises(&self.rules, symbols, store, renamed, memo, none)?;
         let grounds = context_facts(&facts, store, renamed.theta, memo, self.context, ids, first)?;

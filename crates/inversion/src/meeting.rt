@@ -11,10 +11,8 @@ ghost use Rattle.inversion.specs.InvertRules.{meets};
 ghost use Rattle.inversion.specs.Inverting.{EmptyScratch, ScratchKept, KeptAs, MeetingIn, MetAs};
 
 use crate::inverting::{Inverting, Renaming};
-use kernel::rule_readers::conclusion;
 use questions::{Question, Row};
-use rules::SYMBOLS;
-use terms::patterns::build;
+use terms::patterns::Patterns;
 use terms::store::Store;
 use unification::unify::{Scratch, unify};
 
@@ -25,8 +23,7 @@ fn keep_vars(store: &mut Store<'_>, list: &[u32], bound: &mut [u32]) -> Result<(
     ensures kept_as { KeptAs store.old store.new list.now bound.new result }
 {
     for (k, v) in list.iter().enumerate() {
-        let node = [(SYMBOLS + *v as usize) as u32];
-        let term = store.keep(&node)?;
+        let term = store.keep_var(*v as usize)?;
         bound[k] = (term + 1) as u32;
     }
     Ok(())
@@ -53,10 +50,13 @@ impl Inverting<'_> {
         ensures scratch_kept { ScratchKept scratch.old scratch.new }
     {
         keep_vars(store, own.vars, bound)?;
-        let rules = &self.rules;
         let symbols = self.source.reader.symbols;
-        let at = conclusion(rules.patterns, rules.rows, symbols, own.rule);
-        let built = build(symbols, rules.patterns, store, bound, at)?;
+        let at = self.rules.conclusion(symbols, own.rule);
+        let patterns = Patterns {
+            symbols,
+            words: self.rules.patterns,
+        };
+        let built = patterns.build(store, bound, at)?;
         Ok(unify(
             store,
             own.count,

@@ -9,11 +9,11 @@ ghost use Rattle.unification.specs.Unify.{SameScratch};
 ghost use Rattle.inversion.specs.InvertRules.{vars_with, lacks, has_case};
 ghost use Rattle.inversion.specs.Inverting.{EmptyScratch, ScratchKept, LackingIn, LackedAs, HavingIn, JudgedAs, TurningIn, TurnedAs};
 
-use crate::inverting::{Cases, Inverting, Renaming, Variables};
-use crate::renaming::make_vars;
+use crate::inverting::{Inverting, Renaming, RuleVars, Variables};
 use casework::cases::find_case;
 use casework::context::Renamed;
-use kernel::rule_readers::{next_rule, rule_name, variables};
+use cells::Span;
+use kernel::rule_readers::{rule_name, variables};
 use questions::Question;
 use rules::{PAIRS, RULEVARS, SYMBOLS, TERMWORDS, VARIABLES};
 use terms::store::{Store, Terms};
@@ -54,11 +54,15 @@ impl Inverting<'_> {
         let mut list = [0u32; RULEVARS];
         let mut bound = [0u32; RULEVARS];
         let mut theta = [0u32; VARIABLES];
-        let need = variables(self.rules.rows, r);
-        make_vars(self.rules.vars, r, need, names, &mut list)?;
+        let need = RuleVars {
+            rows: self.rules.vars,
+            rule: r,
+            count: variables(self.rules.rows, r),
+        };
+        need.make(names, &mut list)?;
         let own = Renaming {
             rule: r,
-            vars: &list[..need],
+            vars: &list[..need.count],
             count: names.count,
         };
         if self.meet(store, &own, &mut bound, &mut theta, scratch)? {
@@ -104,7 +108,7 @@ impl Inverting<'_> {
     fn invert_rule(
         &self,
         store: &mut Store<'_>,
-        cases: &Cases<'_>,
+        cases: &[u32],
         r: usize,
         names: &mut Variables,
         scratch: &mut Scratch<'_>,
@@ -119,20 +123,22 @@ impl Inverting<'_> {
         ensures scratch_kept { ScratchKept scratch.old scratch.new }
         ensures ids_unchanged { ids.new ≡ ids.old }
     {
-        let span = rule_name(self.rules.rows, r);
-        let from = span.from;
-        let end = span.end;
+        let Span { from, end } = rule_name(self.rules.rows, r);
         let reader = &self.source.reader;
         let name = &reader.theory[from..end];
-        let Some(p) = find_case(reader.text, cases.cells, cases.many, name) else {
+        let Some(case) = find_case(reader.text, cases, name) else {
             return self.without_case(store, r, names, scratch);
         };
         let mut list = [0u32; RULEVARS];
-        let need = variables(self.rules.rows, r);
-        let i = self.case_vars(cases, p, r, need, &mut names.taken, &mut list)?;
+        let need = RuleVars {
+            rows: self.rules.vars,
+            rule: r,
+            count: variables(self.rules.rows, r),
+        };
+        let i = self.case_vars(case, &need, &mut names.taken, &mut list)?;
         let own = Renaming {
             rule: r,
-            vars: &list[..need],
+            vars: &list[..need.count],
             count: names.count,
         };
         self.with_case(store, &own, i, scratch, ids)
@@ -142,7 +148,7 @@ impl Inverting<'_> {
     fn invert_rules(
         &self,
         store: &mut Store<'_>,
-        cases: &Cases<'_>,
+        cases: &[u32],
         names: &mut Variables,
         scratch: &mut Scratch<'_>,
         ids: &mut [u32],
@@ -157,17 +163,14 @@ impl Inverting<'_> {
         ensures scratch_kept { ScratchKept scratch.old scratch.new }
         ensures ids_unchanged { ids.new ≡ ids.old }
     {
+        let reader = &self.source.reader;
         let predicate = predicate_of(&store.terms(), self.hypothesis);
         let mut from = 0;
         // no count: it jumps to the next rule of the predicate
-        while let Some(r) = next_rule(
-            self.rules.rows,
-            self.rules.patterns,
-            self.source.reader.symbols,
-            self.source.reader.n.rules,
-            predicate,
-            from,
-        ) {
+        while let Some(r) = self
+            .rules
+            .next_rule(reader.symbols, reader.n.rules, predicate, from)
+        {
             self.invert_rule(store, cases, r, names, scratch, ids)?;
             from = r + 1;
         }
@@ -178,7 +181,7 @@ impl Inverting<'_> {
     pub fn all_rules(
         &self,
         store: &mut Store<'_>,
-        cases: &Cases<'_>,
+        cases: &[u32],
         names: &mut Variables,
         memo: &mut [u32],
         ids: &mut [u32],
@@ -199,6 +202,7 @@ impl Inverting<'_> {
             memo,
             pairs: &mut pairs,
             seen: &mut seen,
+            waiting: 0,
         };
         self.invert_rules(store, cases, names, &mut scratch, ids)
     }

@@ -1,30 +1,32 @@
-use native.Mathlib.Omega.{arith}
-use Rattle.casework.proofs.Finding.{seeking_start, seeking_over, seeking_inside, seeking_first, seeking_found, seeking_on}
+use Rattle.std.proofs.Common.{refl}
+use Rattle.sexp.specs.Each.{here, over}
+use Rattle.casework.proofs.Finding.{seeking_start, seeking_over, seeking_first, seeking_found, seeking_on}
 use Rattle.casework.proofs.cases.find_case.Goals as goal
 
-pub loop-init : goal.loop-init
-loop-init c = λ g. seeking_start g _
-
-pub offset_bounds-cells-at : goal.offset_bounds-cells-at
-offset_bounds-cells-at c = omega (arith, seeking_inside c.requires _ (c.loop.invariant c.requires) c.loop-test.true, c.well_formed.1.0)
-
-pub slice_bounds-is_named-count : goal.slice_bounds-is_named-count
-slice_bounds-is_named-count c = omega (arith, seeking_inside c.requires _ (c.loop.invariant c.requires) c.loop-test.true)
-
-pub slice_bounds-is_named-start : goal.slice_bounds-is_named-start
-slice_bounds-is_named-start c = omega (arith, seeking_inside c.requires _ (c.loop.invariant c.requires) c.loop-test.true)
+pub loop-item-init : goal.loop-item-init
+loop-item-init c = rw (c.into_iter-item-iterator.ensures.into_iter_gives, c.all-item-items.ensures.0, c.all-item-items.ensures.1)
+    record { cells = refl; seeking = λ g. seeking_start g _ }
 
 pub is_named-requires : goal.is_named-requires
-is_named-requires c = seeking_first c.requires _ (c.loop.invariant c.requires) c.loop-test.true
+is_named-requires c =
+    let h = here c.loop-item.invariant.cells c.in-Some.ensures.steps in
+    rw h.is (seeking_first c.requires _ (c.loop-item.invariant.seeking c.requires) h.inside)
 
 pub returns-then-is_named : goal.returns-then-is_named
-returns-then-is_named c = λ g. seeking_found g _ (c.loop.invariant g) c.loop-test.true c.is_named.result c.is_named.ensures c.if-is_named.true
+returns-then-is_named c = λ g.
+    let h = here c.loop-item.invariant.cells c.in-Some.ensures.steps in
+    let s = c.loop-item.invariant.seeking g in
+    seeking_found g _ s h.inside ((rw h.is at c.is_named.ensures) (seeking_first g _ s h.inside)) c.if-is_named.true h.is
 
-pub after-at-requires : goal.after-at-requires
-after-at-requires c = seeking_inside c.requires _ (c.loop.invariant c.requires) c.loop-test.true
-
-pub loop-preserved : goal.loop-preserved
-loop-preserved c = λ g. seeking_on g _ (c.loop.invariant g) c.loop-test.true c.is_named.result c.is_named.ensures c.if-is_named.false c.after-at.ensures
+pub loop-item-preserved : goal.loop-item-preserved
+loop-item-preserved c =
+    let h = here c.loop-item.invariant.cells c.in-Some.ensures.steps in
+    record {
+      cells = h.same;
+      seeking = λ g.
+          let s = c.loop-item.invariant.seeking g in
+          seeking_on g _ s h.inside ((rw h.is at c.is_named.ensures) (seeking_first g _ s h.inside)) c.if-is_named.false h.behind;
+    }
 
 pub returns : goal.returns
-returns c = λ g. seeking_over g _ (c.loop.invariant g) c.loop-test.false
+returns c = λ g. seeking_over g _ (c.loop-item.invariant.seeking g) (over c.loop-item.invariant.cells c.in-None.ensures.steps)

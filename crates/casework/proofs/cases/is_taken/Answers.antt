@@ -1,13 +1,20 @@
 use native.Mathlib.Omega.{arith}
-use Rattle.casework.proofs.Taken.{taken_among, taken_by_tree}
+use Rattle.casework.proofs.Taken.{taken_among, tree_now, taken_by_tree}
 use Rattle.casework.proofs.cases.is_taken.Goals as goal
 
-pub returns-then-text-gt-LENGTH : goal.returns-then-text-gt-LENGTH
-returns-then-text-gt-LENGTH c = λ g. taken_among g _ (c.is_among.ensures g.first) (λ t l. omega (arith, t, c.if-text-gt-LENGTH.true))
+pub returns-then-text-gt-LENGTH-clause-taken : goal.returns-then-text-gt-LENGTH-clause-taken
+returns-then-text-gt-LENGTH-clause-taken c = λ g. taken_among g _ (c.is_among.ensures g.first) (λ t l. omega (arith, t, c.if-text-gt-LENGTH.true))
 
-pub returns-then-places-many : goal.returns-then-places-many
-returns-then-places-many c = λ g. taken_among g _ (c.is_among-then-places-many.ensures g.first) (λ t l. omega (arith, l, c.if-places-many.true))
+pub overflow_add-names : goal.overflow_add-names
+overflow_add-names c = omega (arith, c.requires.0.kept.few, c.requires.0.kept.short)
 
-pub returns : goal.returns
-returns c = λ g. taken_by_tree g (omega (arith, c.if-text-gt-LENGTH.false)) (omega (arith, c.if-places-many.false)) c.enter.auto.places c.enter.auto.links
-    _ _ c.enter.ensures
+pub returns-then-names-clause-taken : goal.returns-then-names-clause-taken
+returns-then-names-clause-taken c = λ g. taken_among g _ (c.is_among-then-names.ensures g.first) (λ t l. omega (arith, l, c.if-names.true))
+
+pub enter-requires-clause-tree : goal.enter-requires-clause-tree
+enter-requires-clause-tree c =
+    (tree_now c.requires.0 (omega (arith, c.if-text-gt-LENGTH.false)) (omega (arith, c.if-names.false)), omega (arith, c.if-names.false), c.requires.0.kept.short)
+
+pub returns-clause-taken : goal.returns-clause-taken
+returns-clause-taken c = λ g. taken_by_tree g (omega (arith, c.if-text-gt-LENGTH.false)) (omega (arith, c.if-names.false)) c.enter.ensures.same_names
+    _ _ c.enter.ensures.entered

@@ -1,13 +1,12 @@
-use mathlib.Core.Path.{◌≡◌}
-use Prim.Native.Nat.{◌≤◌}
+use Rattle.std.proofs.Common.{◌≡◌}
 use Rattle.casework.specs.Cases.{ReadsCases}
 use Rattle.casework.proofs.Finding.{Casing}
 use Rattle.casework.proofs.cases.read_with.Given as goal
 
-abbrev pub invariant-loop-k : goal.invariant-loop-k
-invariant-loop-k l =
+abbrev pub invariant-loop-item : goal.invariant-loop-item
+invariant-loop-item l =
     record {
-      cells : l.k-iterator.iter.cells.now ≡ l.cells;
-      few : l.k-iterator.count ≤ l.k-iterator.iter.at;
-      casing : (g : ReadsCases l.reader l.cells) → Casing g.S g.xs l.reader.text.now l.cells l.places l.links l.k-iterator.iter.at l.k-iterator.count;
+      cells : l.item-iterator.cells.now ≡ l.cells;
+      text : l.names.text ≡ l.reader.text;
+      casing : (g : ReadsCases l.reader l.cells) → Casing g.S g.xs l.reader.text.now l.cells l.names l.item-iterator.at;
     }

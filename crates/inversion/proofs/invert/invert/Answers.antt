@@ -1,7 +1,7 @@
-use mathlib.Core.Path.{refl, sym, ap, ◌∙◌}
+use mathlib.Core.Path.{refl, sym}
 use Prim.Native.Nat.{ℕ}
 use native.Mathlib.Omega.{arith}
-use lib.ListN.{length, replicate, length-replicate}
+use lib.ListN.{replicate, length-replicate}
 use lib.Seq.{length-take-le}
 use Rattle.std.proofs.lemmas.Result.{err_from_is_err_and}
 use Rattle.rules.specs.Limits.{FACTS}
@@ -9,7 +9,7 @@ use Rattle.inversion.proofs.InvertForms.{form_naming, form_unnamed, form_fact, f
 use Rattle.inversion.proofs.invert.invert.Goals as goal
 
 pub hypothesis-requires : goal.hypothesis-requires
-hypothesis-requires c = (form_naming c.requires.inverts_form.0, ap (λ s. s.hyps) c.no_support-support.ensures)
+hypothesis-requires c = (form_naming c.requires.inverts_form.0, refl)
 
 pub returns-in_err-fact-clause-inverted_as : goal.returns-in_err-fact-clause-inverted_as
 returns-in_err-fact-clause-inverted_as c = λ g. let p = err_from_is_err_and c.from_residual.result c.from_residual.ensures.1 in
@@ -33,31 +33,31 @@ returns-in_err-judgment-clause-inverted_as c = λ g. let p = err_from_is_err_and
 
 pub write_out-many-requires-clause-set_in_bounds : goal.write_out-many-requires-clause-set_in_bounds
 write_out-many-requires-clause-set_in_bounds c =
-    form_writes c.requires.inverts_form.0 c.in_ok-fact.ensures (c.hypothesis.auto.hyps ∙ ap (λ s. length s.hyps) c.no_support-support.ensures) (replicate FACTS 0) (length-replicate {A = ℕ} FACTS 0)
+    form_writes c.requires.inverts_form.0 c.in_ok-fact.ensures c.hypothesis.auto.hyps (replicate FACTS 0) (length-replicate {A = ℕ} FACTS 0)
 
 pub judgment-requires-2 : goal.judgment-requires-2
 judgment-requires-2 c = form_fact c.requires.inverts_form.0 c.in_ok-fact.ensures
 
 pub slice_bounds-list-end : goal.slice_bounds-list-end
 slice_bounds-list-end c =
-    form_few c.requires.inverts_form.0 c.in_ok-fact.ensures (c.hypothesis.auto.hyps ∙ ap (λ s. length s.hyps) c.no_support-support.ensures) (replicate FACTS 0) (length-replicate {A = ℕ} FACTS 0) c.write_out-many.ensures
+    form_few c.requires.inverts_form.0 c.in_ok-fact.ensures c.hypothesis.auto.hyps (replicate FACTS 0) (length-replicate {A = ℕ} FACTS 0) c.write_out-many.ensures
 
 pub slice_bounds-inverting-end : goal.slice_bounds-inverting-end
 slice_bounds-inverting-end c = sym (length-take-le _ _
-    (form_few c.requires.inverts_form.0 c.in_ok-fact.ensures (c.hypothesis.auto.hyps ∙ ap (λ s. length s.hyps) c.no_support-support.ensures) (replicate FACTS 0) (length-replicate {A = ℕ} FACTS 0) c.write_out-many.ensures))
+    (form_few c.requires.inverts_form.0 c.in_ok-fact.ensures c.hypothesis.auto.hyps (replicate FACTS 0) (length-replicate {A = ℕ} FACTS 0) c.write_out-many.ensures))
 
 pub invert_on-requires-clause-inverts_on : goal.invert_on-requires-clause-inverts_on
 invert_on-requires-clause-inverts_on c =
     let g = c.requires.inverts_form.0 in
     let h = c.in_ok-fact.ensures in
     let j = c.in_ok-judgment.ensures.read_as (form_judgment g h c.place-fourth.ensures) in
-    (form_on g h j c.judgment-2.ensures (form_front g h (c.hypothesis.auto.hyps ∙ ap (λ s. length s.hyps) c.no_support-support.ensures) (replicate FACTS 0) (length-replicate {A = ℕ} FACTS 0) c.write_out-many.ensures), c.requires.inverts_form.1)
+    (form_on g h j c.judgment-2.ensures (form_front g h c.hypothesis.auto.hyps (replicate FACTS 0) (length-replicate {A = ℕ} FACTS 0) c.write_out-many.ensures), c.requires.inverts_form.1)
 
 pub returns-in_err-vars-clause-inverted_as : goal.returns-in_err-vars-clause-inverted_as
 returns-in_err-vars-clause-inverted_as c = λ g.
     let h = c.in_ok-fact.ensures in
     let j = c.in_ok-judgment.ensures.read_as (form_judgment g h c.place-fourth.ensures) in
-    let e = form_front g h (c.hypothesis.auto.hyps ∙ ap (λ s. length s.hyps) c.no_support-support.ensures) (replicate FACTS 0) (length-replicate {A = ℕ} FACTS 0) c.write_out-many.ensures in
+    let e = form_front g h c.hypothesis.auto.hyps (replicate FACTS 0) (length-replicate {A = ℕ} FACTS 0) c.write_out-many.ensures in
     let z = c.in_err-vars.ensures.inverted_on_as (form_on g h j c.judgment-2.ensures e) in
     let p = err_from_is_err_and c.from_residual-in_err-vars.result c.from_residual-in_err-vars.ensures.1 in
     rw (p.1, p.2) (form_refused g h j c.judgment-2.ensures e z.0, z.1)
@@ -69,6 +69,6 @@ pub returns-clause-inverted_as : goal.returns-clause-inverted_as
 returns-clause-inverted_as c = λ g.
     let h = c.in_ok-fact.ensures in
     let j = c.in_ok-judgment.ensures.read_as (form_judgment g h c.place-fourth.ensures) in
-    let e = form_front g h (c.hypothesis.auto.hyps ∙ ap (λ s. length s.hyps) c.no_support-support.ensures) (replicate FACTS 0) (length-replicate {A = ℕ} FACTS 0) c.write_out-many.ensures in
+    let e = form_front g h c.hypothesis.auto.hyps (replicate FACTS 0) (length-replicate {A = ℕ} FACTS 0) c.write_out-many.ensures in
     let z = c.in_ok-vars.ensures.inverted_on_as (form_on g h j c.judgment-2.ensures e) in
-    (form_read g h j c.judgment-2.ensures e z c.insert.ensures (ap (λ s. s.footing) c.no_support-support.ensures), refl)
+    (form_read g h j c.judgment-2.ensures e z c.insert.ensures refl, refl)

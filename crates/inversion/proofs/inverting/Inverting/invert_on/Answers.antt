@@ -2,7 +2,7 @@ use mathlib.Core.Path.{refl}
 use native.Mathlib.Omega.{arith}
 use Rattle.std.proofs.lemmas.Result.{err_from_is_err_and}
 use Rattle.referring.specs.Laws.Refers.{refers_recalls}
-use Rattle.inversion.proofs.InvertOn.{on_atom, on_list, on_cases, on_items, on_refused, on_turning, on_stopped, on_read}
+use Rattle.inversion.proofs.InvertOn.{on_atom, on_list, on_cases, on_refused, on_turning, on_stopped, on_read}
 use Rattle.inversion.proofs.inverting.Inverting.invert_on.Goals as goal
 
 pub returns-in_default-clause-inverted_on_as : goal.returns-in_default-clause-inverted_on_as
@@ -27,28 +27,25 @@ pub returns-in_err-read_cases-clause-inverted_on_as : goal.returns-in_err-read_c
 returns-in_err-read_cases-clause-inverted_on_as c = λ g. let p = err_from_is_err_and c.from_residual.result c.from_residual.ensures.1 in
     rw (p.1, p.2) (on_refused g c.nth.ensures c.in-List.is (λ w. (c.in_err-read_cases.ensures w).0), refl)
 
-pub count-requires : goal.count-requires
-count-requires c = on_items c.requires.inverts_on.0 c.nth.ensures c.in-List.is
-
 pub taken_vars-requires : goal.taken_vars-requires
 taken_vars-requires c = let g = c.requires.inverts_on.0 in
     rw (c.facts.ensures, c.terms.ensures) (refers_recalls g.form.refers, g.hypothesis, g.judgment, g.known, refl)
 
 pub all_rules-requires-clause-turning : goal.all_rules-requires-clause-turning
 all_rules-requires-clause-turning c =
-    on_turning c.requires.inverts_on.0 c.nth.ensures c.in-List.is c.in_ok-read_cases.ensures c.count.ensures c.taken_vars.auto.set
+    on_turning c.requires.inverts_on.0 c.nth.ensures c.in-List.is c.in_ok-read_cases.ensures c.taken_vars.auto.set
     (rw (c.facts.ensures, c.terms.ensures) at c.taken_vars.ensures)
 
 pub returns-in_err-all_rules-clause-inverted_on_as : goal.returns-in_err-all_rules-clause-inverted_on_as
 returns-in_err-all_rules-clause-inverted_on_as c = λ g. let p = err_from_is_err_and c.from_residual-in_err-all_rules.result c.from_residual-in_err-all_rules.ensures.1 in
     rw (p.1, p.2) (
       on_stopped g c.nth.ensures c.in-List.is c.in_ok-read_cases.ensures (c.in_err-all_rules.ensures.turned_as
-          (on_turning g c.nth.ensures c.in-List.is c.in_ok-read_cases.ensures c.count.ensures c.taken_vars.auto.set
+          (on_turning g c.nth.ensures c.in-List.is c.in_ok-read_cases.ensures c.taken_vars.auto.set
           (rw (c.facts.ensures, c.terms.ensures) at c.taken_vars.ensures))),
       refl,
     )
 
 pub returns-clause-inverted_on_as : goal.returns-clause-inverted_on_as
 returns-clause-inverted_on_as c = λ g. on_read g c.nth.ensures c.in-List.is c.in_ok-read_cases.ensures c.copy_from_slice.ensures.after (c.in_ok-all_rules.ensures.turned_as
-    (on_turning g c.nth.ensures c.in-List.is c.in_ok-read_cases.ensures c.count.ensures c.taken_vars.auto.set
+    (on_turning g c.nth.ensures c.in-List.is c.in_ok-read_cases.ensures c.taken_vars.auto.set
     (rw (c.facts.ensures, c.terms.ensures) at c.taken_vars.ensures)))

@@ -1,23 +1,12 @@
 use mathlib.Core.Path.{ap, ◌∙◌}
-use native.Mathlib.Omega.{arith}
 use Rattle.std.proofs.lemmas.Result.{err_from_is_err_and}
-use Rattle.state.specs.Entries.{part}
-use Rattle.casework.specs.Laws.Rows.{lists_are}
+use Rattle.terms.specs.Lent.{terms_of}
 use Rattle.casework.specs.Laws.Facts.{recalls_grown}
-use Rattle.inversion.proofs.InvertJudges.{facts_long, own_low, own_high, judge_unmade, judge_given, judge_unread, judge_verdict, judge_done}
+use Rattle.inversion.proofs.InvertJudges.{judge_unmade, judge_given, judge_unread, judge_verdict, judge_done}
 use Rattle.inversion.proofs.inverting.Inverting.judge_on.Goals as goal
 
-pub own_hyps-span-requires : goal.own_hyps-span-requires
-own_hyps-span-requires c = rw c.facts-facts.ensures (facts_long c.requires.recalls)
-
-pub offset_bounds-self-from : goal.offset_bounds-self-from
-offset_bounds-self-from c =
-    let g = c.requires.recalls in
-    let e = rw c.facts-facts.ensures at c.own_hyps-span.ensures in
-    omega (arith, own_low g c.args.i e, own_high g c.args.i e, lists_are g)
-
-pub slice_bounds-no_grounds-end : goal.slice_bounds-no_grounds-end
-slice_bounds-no_grounds-end c = own_high c.requires.recalls c.args.i (rw c.facts-facts.ensures at c.own_hyps-span.ensures)
+pub own_hyps-requires : goal.own_hyps-requires
+own_hyps-requires c = rw c.facts-facts.ensures (terms_of c.args.store.now, c.requires.recalls)
 
 pub returns-in_err-first-clause-judged_as : goal.returns-in_err-first-clause-judged_as
 returns-in_err-first-clause-judged_as c = λ g. let p = err_from_is_err_and c.from_residual.result c.from_residual.ensures.1 in
@@ -27,13 +16,13 @@ pub context_facts-requires : goal.context_facts-requires
 context_facts-requires c =
     let g = c.requires in
     let p = c.in_ok-first.ensures.premises_as _ g.renamed in
-    let o = ap (λ b. b.now) p.1.0 ∙ c.no_grounds-none.ensures.0 ∙ ap (part c.args.self.now.source.lists.now) (rw c.facts-facts.ensures at c.own_hyps-span.ensures) in
+    let o = ap (λ b. b.now) p.1.0 ∙ c.no_grounds-none.ensures.0 ∙ (rw c.facts-facts.ensures at c.own_hyps.ensures) in
     rw c.facts-facts.ensures (judge_given g c.args.i o p.0 c.in_ok-first.ensures.memo_unchanged, g.known, g.zero)
 
 pub returns-in_err-grounds-clause-judged_as : goal.returns-in_err-grounds-clause-judged_as
 returns-in_err-grounds-clause-judged_as c = λ g.
     let p = c.in_ok-first.ensures.premises_as _ g.renamed in
-    let o = ap (λ b. b.now) p.1.0 ∙ c.no_grounds-none.ensures.0 ∙ ap (part c.args.self.now.source.lists.now) (rw c.facts-facts.ensures at c.own_hyps-span.ensures) in
+    let o = ap (λ b. b.now) p.1.0 ∙ c.no_grounds-none.ensures.0 ∙ (rw c.facts-facts.ensures at c.own_hyps.ensures) in
     let e = err_from_is_err_and c.from_residual-in_err-grounds.result c.from_residual-in_err-grounds.ensures.1 in
     rw (e.1, e.2) (judge_unread g c.args.i o p.0 ((rw c.facts-facts.ensures at c.in_err-grounds.ensures.context_as) (recalls_grown p.0.went.grown g.recalls)))
 
@@ -41,14 +30,14 @@ pub verdict-requires : goal.verdict-requires
 verdict-requires c =
     let g = c.requires in
     let p = c.in_ok-first.ensures.premises_as _ g.renamed in
-    let o = ap (λ b. b.now) p.1.0 ∙ c.no_grounds-none.ensures.0 ∙ ap (part c.args.self.now.source.lists.now) (rw c.facts-facts.ensures at c.own_hyps-span.ensures) in
+    let o = ap (λ b. b.now) p.1.0 ∙ c.no_grounds-none.ensures.0 ∙ (rw c.facts-facts.ensures at c.own_hyps.ensures) in
     let k = (rw c.facts-facts.ensures at c.in_ok-grounds.ensures.context_as) (recalls_grown p.0.went.grown g.recalls) in
     rw c.facts-facts.ensures (judge_verdict g c.args.i o p.0 k.0 (ap (λ b. b.now) k.1))
 
 pub returns-clause-judged_as : goal.returns-clause-judged_as
 returns-clause-judged_as c = λ g.
     let p = c.in_ok-first.ensures.premises_as _ g.renamed in
-    let o = ap (λ b. b.now) p.1.0 ∙ c.no_grounds-none.ensures.0 ∙ ap (part c.args.self.now.source.lists.now) (rw c.facts-facts.ensures at c.own_hyps-span.ensures) in
+    let o = ap (λ b. b.now) p.1.0 ∙ c.no_grounds-none.ensures.0 ∙ (rw c.facts-facts.ensures at c.own_hyps.ensures) in
     let k = (rw c.facts-facts.ensures at c.in_ok-grounds.ensures.context_as) (recalls_grown p.0.went.grown g.recalls) in
     judge_done g c.args.i o p.0 k.0 _ ((rw c.facts-facts.ensures at c.verdict.ensures) (judge_verdict g c.args.i o p.0 k.0 (ap (λ b. b.now) k.1)))
     c.no_grounds-none.ensures.1 (p.1.1 ∙ c.no_grounds-none.ensures.2)

@@ -3,7 +3,7 @@ use lib.ListN.{length-set}
 use native.Mathlib.Omega.{arith}
 use Rattle.inversion.proofs.InvertNames.{known_var, rule_sort_lem, sort_small, making_start, making_over, making_full, making_more}
 use Prim.Native.Nat.{ℕ, ◌+◌}
-use Rattle.inversion.proofs.renaming.make_vars.Goals as goal
+use Rattle.inversion.proofs.inverting.RuleVars.make.Goals as goal
 
 pub loop-k-init : goal.loop-k-init
 loop-k-init c = (omega arith, omega (arith, c.requires.3), refl, refl, c.requires.2, refl, λ g vs l. making_start vs _ _ _ _)
