@@ -24,7 +24,8 @@ pub struct Stated {
 }
 
 // The judgments that item 2 of a form lists, and the judgment that is item 3. The numbers of those listed come into the cells `out` as far as there are
-// any; these are zero before, and again where a question is left. They are part of the board's lists, so that the tables of names come apart from it.
+// any; these are zero before, and again where a question is left. They are part of the board's lists, so that the tables of names come apart from it: of a
+// whole board it would have to be said besides that its other tables, and the front of the lists, are as they were.
 pub fn read_stated(
     given: &Given<'_>,
     vars: &[u32],

@@ -19,7 +19,6 @@ use Rattle.sexp.specs.Items.{Holds, item_at, behind}
 use Rattle.sexp.specs.ItemLaws.{at_inside}
 use Rattle.sexp.specs.WalkLaws.{ListIs, walk_start, walk_atom, walk_list}
 use Rattle.sexp.specs.FirstItem.{ItemFirst, none_left, first_of, first_item, holds_first}
-use Rattle.sexp.specs.FoundLaws.{found_at, found_missing}
 use Rattle.sexp.specs.declared.items.Item.{Item}
 use Rattle.sexp.specs.declared.items.Item.TheVariants.{Atom, List as Part}
 use Rattle.terms.specs.declared.store.Mark.{Mark}
@@ -39,6 +38,7 @@ use Rattle.reading.specs.Items.{FirstItem, index_in, index_found}
 use Rattle.reading.specs.Given.{ReadsItems}
 use Rattle.reading.specs.Answers.{BindingsRead}
 use Rattle.referring.specs.Recall.{fact_of, BareItem, RefersItem, RefersItems}
+use Rattle.referring.specs.Sources.{Missing}
 use Rattle.referring.specs.Referral.{rests_on, instances_of, ref_of, RefRead, ReferredBy}
 use Rattle.reading.specs.Laws.Bindings.{bindings_replaceable, bindings_along}
 use Rattle.referring.specs.Laws.Refers.{fact_here, fact_found, fact_none, fact_asks, refers_bare, refers_items}
@@ -81,25 +81,26 @@ empty_not (x ∷ xs) e = refl
 -- A fact by its number ---------------------------------------------------------------------------------------------------------------------
 
 module _ {text facts : List ℕ} {n : Sizes} {m : Mark} {cells : List ℕ} (g : BareItem text facts n m cells) where
-  module _ (p : ℕ) (bs : List ℕ) (x : g.x ≡ atom p bs) {r : Option ℕ} (a : (x : Sexp) (ys : Sexps) → Holds text cells (cons x ys) → r ≡ (index_in x)) where
-    bare_answer : r ≡ (index_in (atom p bs))
-    bare_answer = a g.x g.ys g.holds ∙ ap (λ (z : Sexp). (index_in z)) x
+  -- what `earlier` is given
+  pub bare_first : FirstItem text cells
+  bare_first = record { x = g.x; ys = g.ys; holds = g.holds }
 
-    pub bare_missing : r ≡ nothing → Stopped g.index g.words g.index g.words m (reference g.S g.x (made g.index g.words m)) 34 0 m
+  module _ (p : ℕ) (bs : List ℕ) (x : g.x ≡ atom p bs) where
+    pub bare_no : ((x : Sexp) (ys : Sexps) → Holds text cells (cons x ys) → Missing n (index_in x)) →
+        Stopped g.index g.words g.index g.words m (reference g.S g.x (made g.index g.words m)) 34 0 m
     unfolding reference
-    bare_missing e =
+    bare_no a =
         subst (λ (z : Sexp). Stopped g.index g.words g.index g.words m (reference g.S z (made g.index g.words m)) 34 0 m) (sym x)
-        (on_stop _ (on_start g.good) (index_not 34 (atom p bs) (made g.index g.words m) (found_missing (index_in (atom p bs)) r bare_answer e)))
+        (go (index_in (atom p bs)) refl (subst (λ (z : Sexp). Missing n (index_in z)) x (a g.x g.ys g.holds)))
+      where
+        go : (o : Option ℕ) → index_in (atom p bs) ≡ o → Missing n o → Stopped g.index g.words g.index g.words m (reference g.S (atom p bs) (made g.index g.words m)) 34 0 m
+        go nothing e l = on_stop _ (on_start g.good) (index_not 34 (atom p bs) (made g.index g.words m) e)
+        go (some i) e l =
+            on_stop _ (on_pure _ (on_start g.good) (index_is 34 (atom p bs) i (made g.index g.words m) e)) (fact_none g.recorded (made g.index g.words m) l)
 
-    module _ {i : ℕ} (e : r ≡ some i) where
+    module _ {i : ℕ} (a : (x : Sexp) (ys : Sexps) → Holds text cells (cons x ys) → index_in x ≡ some i) where
       bare_index : index 34 (atom p bs) (made g.index g.words m) ≡ ok i (made g.index g.words m)
-      bare_index = index_is 34 (atom p bs) i (made g.index g.words m) (found_at (index_in (atom p bs)) r i bare_answer e)
-
-      pub bare_late : n.facts ≤ i → Stopped g.index g.words g.index g.words m (reference g.S g.x (made g.index g.words m)) 34 0 m
-      unfolding reference
-      bare_late l =
-          subst (λ (z : Sexp). Stopped g.index g.words g.index g.words m (reference g.S z (made g.index g.words m)) 34 0 m) (sym x)
-          (on_stop _ (on_pure _ (on_start g.good) bare_index) (fact_none g.recorded (made g.index g.words m) l))
+      bare_index = index_is 34 (atom p bs) i (made g.index g.words m) (ap index_in (sym x) ∙ a g.x g.ys g.holds)
 
       pub bare_read : i < n.facts → {t : ℕ} → t ≡ cell 6 facts i 0 →
           RefRead g.index g.words g.index g.words m g.S (reference g.S g.x (made g.index g.words m)) t i true m
@@ -170,42 +171,43 @@ module _ {K : Names} {facts : List ℕ} {n : Sizes} {I W : List ℕ} {m : Mark} 
       abbrev pub rest_given : ReadsItems K n I W m (take (length cells - next) (drop next cells))
       rest_given = record { S = g.S; xs = rest g.xs 1; reads = g.refers.reads; holds = rest_holds }
 
-    module _ {r : Option ℕ} (a : (x : Sexp) (ys : Sexps) → Holds K.text cells (cons x ys) → r ≡ (index_in x)) where
-      instance_answer : r ≡ (index_in (item g.xs 0))
-      unfolding item
-      instance_answer =
-          let f = first_item (item_at cells 0) g.holds l refl in
-          a f.x f.ys (holds_first f g.holds) ∙ ap (λ (zs : Sexps). (index_in (item zs 0))) (sym f.is)
+    -- what is said of it, of the first of the items
+    at_first : (P : Option ℕ → Type 0) → ((x : Sexp) (ys : Sexps) → Holds K.text cells (cons x ys) → P (index_in x)) → P (index_in (item g.xs 0))
+    unfolding item
+    at_first P a =
+        let f = first_item (item_at cells 0) g.holds l refl in
+        subst (λ (zs : Sexps). P (index_in (item zs 0))) (sym f.is) (a f.x f.ys (holds_first f g.holds))
 
-      pub instance_missing : r ≡ nothing → Stopped I W I W m (instance g.S g.xs (made I W m)) 34 0 m
-      instance_missing e = instance_unread (found_missing (index_in (item g.xs 0)) r instance_answer e)
+    pub instance_no : ((x : Sexp) (ys : Sexps) → Holds K.text cells (cons x ys) → Missing n (index_in x)) → Stopped I W I W m (instance g.S g.xs (made I W m)) 34 0 m
+    unfolding instance
+    instance_no a = go (index_in (item g.xs 0)) refl (at_first (Missing n) a)
+      where
+        go : (o : Option ℕ) → index_in (item g.xs 0) ≡ o → Missing n o → Stopped I W I W m (instance g.S g.xs (made I W m)) 34 0 m
+        go nothing e k = instance_unread e
+        go (some i) e k =
+            on_stop _ (on_pure _ (on_start g.refers.reads.good) (index_is 34 (item g.xs 0) i (made I W m) e)) (fact_none g.refers.recorded (made I W m) k)
 
-      module _ {i : ℕ} (e : r ≡ some i) where
-        instance_index : index 34 (item g.xs 0) (made I W m) ≡ ok i (made I W m)
-        instance_index = index_is 34 (item g.xs 0) i (made I W m) (found_at (index_in (item g.xs 0)) r i instance_answer e)
+    module _ {i : ℕ} (a : (x : Sexp) (ys : Sexps) → Holds K.text cells (cons x ys) → index_in x ≡ some i) where
+      instance_index : index 34 (item g.xs 0) (made I W m) ≡ ok i (made I W m)
+      instance_index = index_is 34 (item g.xs 0) i (made I W m) (at_first (λ (o : Option ℕ). o ≡ some i) a)
 
-        pub instance_late : n.facts ≤ i → Stopped I W I W m (instance g.S g.xs (made I W m)) 34 0 m
-        unfolding instance
-        instance_late k =
-            on_stop _ (on_pure _ (on_start g.refers.reads.good) instance_index) (fact_none g.refers.recorded (made I W m) k)
+      on_fact : i < n.facts → On I W m (instance g.S g.xs (made I W m)) I W m (asked g.S g.xs (fact_of g.S i) (made I W m))
+      unfolding instance
+      on_fact k = on_pure _ (on_pure _ (on_start g.refers.reads.good) instance_index) (fact_found g.refers.recorded (made I W m) k)
 
-        on_fact : i < n.facts → On I W m (instance g.S g.xs (made I W m)) I W m (asked g.S g.xs (fact_of g.S i) (made I W m))
-        unfolding instance
-        on_fact k = on_pure _ (on_pure _ (on_start g.refers.reads.good) instance_index) (fact_found g.refers.recorded (made I W m) k)
+      module _ (k : i < n.facts) {s : Span} (f : s ≡ hyps_span facts i) where
+        span_many : s.end - s.from ≡ length (fact_of g.S i).hyps
+        span_many = ap (λ (z : Span). z.end - z.from) f ∙ let y = hyps_many g.refers.recorded k in omega arith
 
-        module _ (k : i < n.facts) {s : Span} (f : s ≡ hyps_span facts i) where
-          span_many : s.end - s.from ≡ length (fact_of g.S i).hyps
-          span_many = ap (λ (z : Span). z.end - z.from) f ∙ let y = hyps_many g.refers.recorded k in omega arith
+        pub instance_rests : (s.from ≡ s.end → ⊥) → Stopped I W I W m (instance g.S g.xs (made I W m)) 35 0 m
+        instance_rests d =
+            let a = ap (λ (z : Span). z.from) f in
+            let b = ap (λ (z : Span). z.end) f in
+            on_ask_no _ 35 (on_fact k) (empty_not (fact_of g.S i).hyps (λ z. d (omega (arith, span_many, a, b, z))))
 
-          pub instance_rests : (s.from ≡ s.end → ⊥) → Stopped I W I W m (instance g.S g.xs (made I W m)) 35 0 m
-          instance_rests d =
-              let a = ap (λ (z : Span). z.from) f in
-              let b = ap (λ (z : Span). z.end) f in
-              on_ask_no _ 35 (on_fact k) (empty_not (fact_of g.S i).hyps (λ z. d (omega (arith, span_many, a, b, z))))
-
-          pub instance_opens : s.from ≡ s.end → Opens n I W m g.S g.xs i
-          instance_opens d =
-              record { there = k; on = on_ask_yes _ 35 (on_fact k) (empty_is (fact_of g.S i).hyps (omega (arith, span_many, d))) }
+        pub instance_opens : s.from ≡ s.end → Opens n I W m g.S g.xs i
+        instance_opens d =
+            record { there = k; on = on_ask_yes _ 35 (on_fact k) (empty_is (fact_of g.S i).hyps (omega (arith, span_many, d))) }
 
   pub opens_asks : {i : ℕ} → i < n.facts → FactAt facts i
   opens_asks k = fact_asks g.refers.recorded k

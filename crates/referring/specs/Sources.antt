@@ -1,9 +1,10 @@
 -- The texts and tables from which the forms of facts are read, as they are lent: what they must say, and what is asked of the store and the sets beside
 -- them. Each is the relation of the same meaning over plain tables. Assumes nothing.
-use Rattle.std.specs.Prelude.{◌≡◌, ◌≢◌, List, ℕ, ◌≤◌, ◌<◌, ◌⊎◌, Result, Ok, Err}
+use Rattle.std.specs.Prelude.{◌≡◌, ◌≢◌, List, ℕ, ◌≤◌, ◌<◌, ◌⊎◌, Some as some, None as nothing, Option, Result, Ok, Err}
 use Rattle.rules.specs.Find.{Set}
-use Rattle.rules.specs.Sexp.{atom}
+use Rattle.rules.specs.Sexp.{Sexp, Sexps, atom, cons}
 use Rattle.rules.specs.Reference.{reference}
+use Rattle.sexp.specs.Items.{Holds}
 use Rattle.questions.specs.declared.Question.{Question}
 use Rattle.questions.specs.declared.Question.TheVariants.{Earlier, CaseJudgment}
 use Rattle.kernel.specs.declared.rule_readers.Rules.{Rules}
@@ -15,8 +16,10 @@ use Rattle.terms.specs.Sets.{holds}
 use Rattle.terms.specs.Collect.{Seen}
 use Rattle.state.specs.Held.{Names, RuleLists, rule_lists}
 use Rattle.state.specs.Rows.{cell}
+use Rattle.state.specs.declared.sizes.Sizes.{Sizes}
 use Rattle.state.specs.declared.board.Given.{Given}
 use Rattle.state.specs.declared.board.Board.{Board}
+use Rattle.reading.specs.Items.{index_in}
 use Rattle.reading.specs.Reader.{names_of, reader_of}
 use Rattle.referring.specs.declared.source.Facts.{Facts}
 use Rattle.referring.specs.declared.source.Source.{Source}
@@ -54,6 +57,15 @@ ReadsReference s t cells = RefersItem (source_names s) s.rows.now s.reader.n t.i
 
 abbrev pub ReadsReferences : Source → Store → List ℕ → Type 0
 ReadsReferences s t cells = RefersItems (source_names s) s.rows.now s.reader.n t.index.now t.words.now t.mark cells
+
+-- what the first item numbers is an earlier fact, or not
+abbrev pub Missing : Sizes → Option ℕ → Type 0
+Missing n (some i) = n.facts ≤ i
+Missing n nothing = Unit {0}
+
+abbrev pub EarlierAs : Source → List ℕ → Result ℕ Question → Type 0
+EarlierAs s cells (Ok i) = ((x : Sexp) (ys : Sexps) → Holds s.reader.text.now cells (cons x ys) → index_in x ≡ some i) × (i < s.reader.n.facts)
+EarlierAs s cells (Err q) = (q ≡ Earlier) × ((x : Sexp) (ys : Sexps) → Holds s.reader.text.now cells (cons x ys) → Missing s.reader.n (index_in x))
 
 -- a bare one, beside some store
 abbrev pub ReadsBare : Source → List ℕ → Type 0

@@ -6,7 +6,8 @@ ghost use Rattle.rules.specs.Reference.{reference, instance};
 ghost use Rattle.terms.specs.Lent.{SameTables, made_of};
 ghost use Rattle.terms.specs.Sets.{holds};
 ghost use Rattle.referring.specs.Referral.{ReferredAs};
-ghost use Rattle.referring.specs.Sources.{ReadsBare, ReferredBare, ReadsReference, ReadsReferences};
+ghost use Rattle.reading.specs.Items.{FirstItem};
+ghost use Rattle.referring.specs.Sources.{EarlierAs, ReadsBare, ReferredBare, ReadsReference, ReadsReferences};
 
 use crate::source::Source;
 use questions::Question;
@@ -28,10 +29,10 @@ pub struct Referred {
 }
 
 impl Source<'_> {
-    // The fact that the first item numbers.
-    fn bare(&self, cells: &[u32]) -> Result<Referred, Question>
-        requires { ReadsBare self.now cells.now }
-        ensures { ReferredBare self.now cells.now result }
+    // The earlier fact that the first item numbers.
+    fn earlier(&self, cells: &[u32]) -> Result<usize, Question>
+        requires { FirstItem self.now.reader.text.now cells.now }
+        ensures { EarlierAs self.now cells.now result }
     {
         let Some(i) = index_in(self.reader.text, cells) else {
             return Err(Question::Earlier);
@@ -39,6 +40,15 @@ impl Source<'_> {
         if !is_fact(self.reader.n, i) {
             return Err(Question::Earlier);
         }
+        Ok(i)
+    }
+
+    // The fact that the first item numbers, named bare.
+    fn bare(&self, cells: &[u32]) -> Result<Referred, Question>
+        requires { ReadsBare self.now cells.now }
+        ensures { ReferredBare self.now cells.now result }
+    {
+        let i = self.earlier(cells)?;
         Ok(Referred {
             judgment: judgment(self.rows, i),
             fact: i,
@@ -63,12 +73,7 @@ impl Source<'_> {
         if cells.is_empty() {
             return Err(Question::Earlier);
         }
-        let Some(i) = index_in(self.reader.text, cells) else {
-            return Err(Question::Earlier);
-        };
-        if !is_fact(self.reader.n, i) {
-            return Err(Question::Earlier);
-        }
+        let i = self.earlier(cells)?;
         // Its row says whether there are any; of the entries themselves, which `Facts::hyps` would lend, nothing is asked here.
         let own = hyps_of(self.rows, i);
         if own.from != own.end {
