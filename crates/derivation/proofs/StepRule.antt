@@ -7,7 +7,7 @@ use Prim.Native.Nat.{ℕ, ◌-◌, ◌*◌, ◌<◌, ◌≤◌}
 use native.Mathlib.Omega.{arith}
 use lib.Dec.{eqb}
 use lib.ListN.{length, get_or, take, drop, length-append}
-use lib.Seq.{length-take-le, get_or-take}
+use lib.Seq.{take-length}
 use borrow.Author.Tests.{eqb-true, eq-eqb, ne_eqb}
 use Rattle.rules.specs.Limits.{PATTERNS, RULEWORDS, FACTWORDS}
 use Rattle.rules.specs.Out.{Out, ok, then, ask}
@@ -155,11 +155,8 @@ module _ {K : Names} {rules rulevars patterns facts footings lists : List ℕ} {
           by_given = record { S = g.S; xs = by_part.items; refers = g.refers; holds = by_part.holds; many = omega arith }
 
           -- a cell for each premise is one for each reference
-          pub by_room : {most : ℕ} → PremisesOf rules r most → {room : ℕ} → room ≡ most → k ≤ room
-          by_room {most} w h = omega (arith, e, wanted, by_premises {k = most} w, h)
-
-          pub by_few_items : {most : ℕ} → PremisesOf rules r most → FewItems (take (end - start) (drop start cells)) most
-          by_few_items {most} w ys q = omega (arith, c ys q, e, wanted, by_premises {k = most} w)
+          pub by_few_items : FewItems (take (end - start) (drop start cells)) v
+          by_few_items ys q = omega (arith, c ys q, e)
 
           pub by_refused : {J X : List ℕ} {new : Mark} {c d : ℕ} → ((h : FactForm K facts footings lists n I W m (take (end - start) (drop start cells)) 0) →
               Stopped I W J X m (references h.S h.xs (made I W m)) c d new) → Stopped I W J X m whole c d new
@@ -174,85 +171,82 @@ module _ {K : Names} {rules rulevars patterns facts footings lists : List ℕ} {
             pub after : Refers K facts footings lists n J X new g.S
             after = refers_went g.refers (references_keeps g.S by_part.items (made I W m) g.refers.recorded.trees) refs.went
 
-            pub terms_there : (i : ℕ) → i < length (take k ids) → k ≤ length ids → get_or (take k ids) i 0 < new.terms
-            terms_there i l b =
-                let w : i < k = omega (arith, length-take-le k ids b) in
-                let z : get_or (take k ids) i 0 ≡ get_or ids i 0 = get_or-take k ids i 0 w in
-                omega (arith, z, refs.there i (omega (arith, w, counted)))
+            module _ (b : length ids ≡ v) where
+              filled : length ids ≡ count by_part.items
+              filled = b ∙ sym e ∙ counted
 
-            abbrev pub by_scopes : k ≤ length ids → length hyps ≡ FACTWORDS →
-                Scopes K (rule_lists K.theory rules rulevars patterns) facts lists n J X new r cells (take k ids) hyps
-            by_scopes b w =
-                record {
-                  S = g.S;
-                  xs = g.xs;
-                  footings = footings;
-                  refers = after;
-                  ruled = g.ruled;
-                  known = known;
-                  holding = g.holds;
-                  many = sym (length-take-le k ids b ∙ e ∙ wanted);
-                  there = λ i l. terms_there i l b;
-                  earlier = refs.earlier;
-                  long = w;
-                }
-
-            -- the terms of the references, and what they rest on
-            judged : args_of (made J X new) (take k ids) ≡ refs.refs.judgments
-            judged = ap (λ (i : ℕ). args_of (made J X new) (take i ids)) counted ∙ refs.judgments
-
-            abbrev scope : Out Made Tree
-            scope =
-                in_scope g.S (rule g.S.theory r) (args_of (made J X new) (take k ids)) (rising (length g.S.facts) (holds hyps)) (rest g.xs 4) (made J X new)
-
-            abbrev last : Tree → Made → Out Made (Fact × ℕ)
-            last j s = ok (fact refs.refs j) s
-
-            on_last : On I W m whole J X new (then scope last)
-            on_last =
-                on_is (on_ok third on_third refs.went)
-                (λ i. then (in_scope g.S (rule g.S.theory r) (sym judged i) (rising (length g.S.facts) (sym refs.rests i)) (rest g.xs 4) (made J X new)) last)
-
-            -- the rule has joined the footing
-            module _ (footing' : List ℕ) (w : holds footing' ≡ plus r (holds footing)) where
-              footed : union (has (r ∷ [])) refs.refs.footing ≡ holds footing'
-              footed = sym (w ∙ ap (plus r) refs.uses ∙ has_one r refs.refs.footing)
-
-              known_all : Under (length g.S.theory.rules) (holds footing')
-              known_all v t =
-                  ⊎_elim (λ z. refs.known v z) (λ z. omega (arith, eqb-true v r z, by_rule_lem)) (or_cases (holds footing v) (eqb v r) (sym (ap (λ (s : Set). s v) w) ∙ t))
-
-              fact_is : (j : Tree) (c : ℕ) → c ≡ instances → fact refs.refs j ≡ with_instances (derived_fact g.S j hyps footing') c
-              fact_is j c z = λ i. (
-                record {
-                  judgment = j;
-                  hyps = rising (length g.S.facts) (sym refs.rests i);
-                  assumed = false;
-                  premises = none;
-                  general = [];
-                  footing = rising (length g.S.theory.rules) (footed i);
-                },
-                (sym (z ∙ refs.counted)) i,
-              )
-
-              -- the references' hypotheses and instances beside it
-              abbrev brought' : Brought
-              brought' = record { instances = instances; support = record { hyps = hyps; footing = footing' } }
-
-              by_answers : (Y Z : List ℕ) (now : Mark) (a : Result Derived Question) → ScopedBy J X Y Z new now scope brought' a →
-                  DerivedBy (Fact × ℕ) I W Y Z m now g.S whole with_instances a
-              by_answers Y Z now (Ok d) t =
-                  subst (λ (s : Support). DerivedRead (Fact × ℕ) I W Y Z m g.S whole with_instances s.hyps s.footing d.judgment d.instances now) (sym t.2) (record {
-                    went = on_done (on_is (on_ok last on_last t.0.went) (ap (λ (f : Fact × ℕ). ok f (made Y Z now)) (fact_is (tree Y Z now d.judgment) d.instances t.1)));
-                    there = t.0.there;
+              abbrev pub by_scopes : length hyps ≡ FACTWORDS → Scopes K (rule_lists K.theory rules rulevars patterns) facts lists n J X new r cells ids hyps
+              by_scopes w =
+                  record {
+                    S = g.S;
+                    xs = g.xs;
+                    footings = footings;
+                    refers = after;
+                    ruled = g.ruled;
+                    known = known;
+                    holding = g.holds;
+                    many = sym (b ∙ wanted);
+                    there = λ i l. refs.there i (omega (arith, l, filled));
                     earlier = refs.earlier;
-                    known = known_all;
-                  })
-              by_answers Y Z now (Err q) t = on_no last on_last t
+                    long = w;
+                  }
 
-              pub by_answer : (b : k ≤ length ids) (l : length hyps ≡ FACTWORDS) (Y Z : List ℕ) (now : Mark) (a : Result Derived Question) →
-                  ((h : Scopes K (rule_lists K.theory rules rulevars patterns) facts lists n J X new r cells (take k ids) hyps) →
-                  ScopedBy J X Y Z new now
-                  (in_scope h.S (rule h.S.theory r) (args_of (made J X new) (take k ids)) (rising (length h.S.facts) (holds hyps)) (rest h.xs 4) (made J X new)) brought' a) →
-                  DerivedBy (Fact × ℕ) I W Y Z m now g.S whole with_instances a
-              by_answer b l Y Z now a t = by_answers Y Z now a (t (by_scopes b l))
+              -- the terms of the references, and what they rest on
+              judged : args_of (made J X new) ids ≡ refs.refs.judgments
+              judged =
+                  ap (args_of (made J X new)) (sym (take-length ids)) ∙ ap (λ (i : ℕ). args_of (made J X new) (take i ids)) filled ∙ refs.judgments
+
+              abbrev scope : Out Made Tree
+              scope = in_scope g.S (rule g.S.theory r) (args_of (made J X new) ids) (rising (length g.S.facts) (holds hyps)) (rest g.xs 4) (made J X new)
+
+              abbrev last : Tree → Made → Out Made (Fact × ℕ)
+              last j s = ok (fact refs.refs j) s
+
+              on_last : On I W m whole J X new (then scope last)
+              on_last =
+                  on_is (on_ok third on_third refs.went)
+                  (λ i. then (in_scope g.S (rule g.S.theory r) (sym judged i) (rising (length g.S.facts) (sym refs.rests i)) (rest g.xs 4) (made J X new)) last)
+
+              -- the rule has joined the footing
+              module _ (footing' : List ℕ) (w : holds footing' ≡ plus r (holds footing)) where
+                footed : union (has (r ∷ [])) refs.refs.footing ≡ holds footing'
+                footed = sym (w ∙ ap (plus r) refs.uses ∙ has_one r refs.refs.footing)
+
+                known_all : Under (length g.S.theory.rules) (holds footing')
+                known_all v t =
+                    ⊎_elim (λ z. refs.known v z) (λ z. omega (arith, eqb-true v r z, by_rule_lem)) (or_cases (holds footing v) (eqb v r) (sym (ap (λ (s : Set). s v) w) ∙ t))
+
+                fact_is : (j : Tree) (c : ℕ) → c ≡ instances → fact refs.refs j ≡ with_instances (derived_fact g.S j hyps footing') c
+                fact_is j c z = λ i. (
+                  record {
+                    judgment = j;
+                    hyps = rising (length g.S.facts) (sym refs.rests i);
+                    assumed = false;
+                    premises = none;
+                    general = [];
+                    footing = rising (length g.S.theory.rules) (footed i);
+                  },
+                  (sym (z ∙ refs.counted)) i,
+                )
+
+                -- the references' hypotheses and instances beside it
+                abbrev brought' : Brought
+                brought' = record { instances = instances; support = record { hyps = hyps; footing = footing' } }
+
+                by_answers : (Y Z : List ℕ) (now : Mark) (a : Result Derived Question) → ScopedBy J X Y Z new now scope brought' a →
+                    DerivedBy (Fact × ℕ) I W Y Z m now g.S whole with_instances a
+                by_answers Y Z now (Ok d) t =
+                    subst (λ (s : Support). DerivedRead (Fact × ℕ) I W Y Z m g.S whole with_instances s.hyps s.footing d.judgment d.instances now) (sym t.2) (record {
+                      went = on_done (on_is (on_ok last on_last t.0.went) (ap (λ (f : Fact × ℕ). ok f (made Y Z now)) (fact_is (tree Y Z now d.judgment) d.instances t.1)));
+                      there = t.0.there;
+                      earlier = refs.earlier;
+                      known = known_all;
+                    })
+                by_answers Y Z now (Err q) t = on_no last on_last t
+
+                pub by_answer : (l : length hyps ≡ FACTWORDS) (Y Z : List ℕ) (now : Mark) (a : Result Derived Question) →
+                    ((h : Scopes K (rule_lists K.theory rules rulevars patterns) facts lists n J X new r cells ids hyps) →
+                    ScopedBy J X Y Z new now
+                    (in_scope h.S (rule h.S.theory r) (args_of (made J X new) ids) (rising (length h.S.facts) (holds hyps)) (rest h.xs 4) (made J X new)) brought' a) →
+                    DerivedBy (Fact × ℕ) I W Y Z m now g.S whole with_instances a
+                by_answer l Y Z now a t = by_answers Y Z now a (t (by_scopes l))

@@ -213,14 +213,12 @@ fn step_by(
         return Err(Question::Premises);
     };
     let inner = &cells[a..b];
-    let many = items::count(inner);
-    let OneRule { rules, number } = *rule;
-    if many != premises(rules.rows, number) {
+    if items::count(inner) != ids.len() {
         return Err(Question::Premises);
     }
     let mut brought = references(source, store, inner, memo, ids)?;
-    insert(&mut brought.support.footing, number);
-    step_on(source, rule, store, cells, &ids[..many], &brought)
+    insert(&mut brought.support.footing, rule.number);
+    step_on(source, rule, store, cells, ids, &brought)
 }
 
 // The rest of the form behind its references.

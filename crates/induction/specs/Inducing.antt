@@ -1,6 +1,6 @@
 -- What the form `induct` is given and what its parts answer: the motive in the store, a case's terms, and what a case may rest on. Assumes nothing.
-use Rattle.std.specs.Prelude.{◌≡◌, Bool, true, false, ◌&&◌, ◌||◌, List, [], ◌∷◌, ℕ, zero, suc, ◌*◌, ◌<◌, ◌≤◌, eqb, length, get_or, take, drop, Some as some, None as nothing, Result, Ok, Err}
-use Rattle.rules.specs.Limits.{ARGUMENTS, VARIABLES, FACTS, SYMBOLS, VARIABLEWORDS, TERMWORDS, FACTWORDS}
+use Rattle.std.specs.Prelude.{◌≡◌, Bool, true, false, ◌&&◌, ◌||◌, List, [], ◌∷◌, ℕ, zero, suc, ◌*◌, ◌<◌, ◌≤◌, eqb, length, get_or, take, drop, replicate, Some as some, None as nothing, Result, Ok, Err}
+use Rattle.rules.specs.Limits.{ARGUMENTS, VARIABLES, FACTS, SYMBOLS, TERMS, VARIABLEWORDS, TERMWORDS, FACTWORDS}
 use Rattle.rules.specs.Out.{Out, ok, refuse, Act, ◌>>=◌, pure, ask}
 use Rattle.rules.specs.Find.{entry, any, all}
 use Rattle.rules.specs.Sexp.{Sexp, Sexps, cons, count, item, rest}
@@ -42,6 +42,10 @@ use Rattle.induction.specs.declared.induct.Subject.{Subject}
 -- cells for numbers of terms
 abbrev pub IDS : ℕ
 IDS = 40960
+
+-- scratch as it is before a form and behind it
+abbrev pub Blank : List ℕ → List ℕ → Type 0
+Blank memo ids = (memo ≡ replicate TERMS 0) × (ids ≡ replicate IDS 0)
 
 -- enough of them for a case: at most ARGUMENTS induction hypotheses, of so many premises and a judgment each
 abbrev pub Roomy : ℕ → List ℕ → Type 0

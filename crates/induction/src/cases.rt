@@ -63,7 +63,7 @@ impl Motive<'_> {
         Ok(t)
     }
 
-    // The premises, then the judgment.
+    // The premises, then the judgment: a hypothesis makes its terms in this order, a case in the other, and the numbers of terms show it.
     fn premises_first(
         &self,
         store: &mut Store<'_>,

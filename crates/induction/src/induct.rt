@@ -9,7 +9,7 @@ ghost use Rattle.terms.specs.Lent.{SameTables, made_of, terms_made};
 ghost use Rattle.terms.specs.Sets.{holds};
 ghost use Rattle.referring.specs.Sources.{ReadsForm};
 ghost use Rattle.referring.specs.Derived.{DerivedAs, alone};
-ghost use Rattle.induction.specs.Inducing.{IDS, Roomy, PassedAs, motive_of, Motived, judgment_cells, on_motive, ReadsMotive, ReadsInduct, ReadsSubject, SubjectAs};
+ghost use Rattle.induction.specs.Inducing.{Blank, Roomy, PassedAs, motive_of, Motived, judgment_cells, on_motive, ReadsMotive, ReadsInduct, ReadsSubject, SubjectAs};
 
 use crate::induct_cases::induct_cases;
 use crate::motive::Motive;
@@ -115,7 +115,7 @@ fn on_motive(
     ids: &mut [u32],
 ) -> Result<(), Question>
     requires motive_items { ReadsMotive source.now store.old motive.now cells.now }
-    requires scratch { (memo.old ≡ replicate TERMS 0) × (ids.old ≡ replicate IDS 0) }
+    requires scratch { Blank memo.old ids.old }
     ensures same_tables { SameTables store.old store.new }
     ensures passed_as { (g : ReadsMotive source.now store.old motive.now cells.now) →
         PassedAs store.old store.new (on_motive g.S (motive_of (made_of store.old) motive.now) g.xs (made_of store.old)) result }
@@ -139,7 +139,7 @@ fn induct_on(
     ids: &mut [u32],
 ) -> Result<Derived, Question>
     requires induct_form { ReadsInduct source.now store.old x hyps cells.now }
-    requires scratch { (memo.old ≡ replicate TERMS 0) × (ids.old ≡ replicate IDS 0) }
+    requires scratch { Blank memo.old ids.old }
     ensures same_tables { SameTables store.old store.new }
     ensures derived_as { (g : ReadsInduct source.now store.old x hyps cells.now) →
         DerivedAs Fact store.old store.new g.S (induct_on g.S x (rising (length g.S.facts) (holds hyps)) g.y g.z (made_of store.old)) alone result }
@@ -180,7 +180,7 @@ pub fn induct(
     ids: &mut [u32],
 ) -> Result<Derived, Question>
     requires reads { ReadsForm source.now store.old cells.now 5 }
-    requires scratch { (memo.old ≡ replicate TERMS 0) × (ids.old ≡ replicate IDS 0) }
+    requires scratch { Blank memo.old ids.old }
     ensures same_tables { SameTables store.old store.new }
     ensures derived_as { (g : ReadsForm source.now store.old cells.now 5) →
         DerivedAs Fact store.old store.new g.S (induct g.S g.xs (made_of store.old)) alone result }
@@ -201,7 +201,7 @@ pub fn induct_with(
     ids: &mut [u32],
 ) -> Result<Derived, Question>
     requires reads { ReadsForm source.now store.old cells.now 6 }
-    requires scratch { (memo.old ≡ replicate TERMS 0) × (ids.old ≡ replicate IDS 0) }
+    requires scratch { Blank memo.old ids.old }
     ensures same_tables { SameTables store.old store.new }
     ensures derived_as { (g : ReadsForm source.now store.old cells.now 6) →
         DerivedAs Fact store.old store.new g.S (induct_with g.S g.xs (made_of store.old)) alone result }

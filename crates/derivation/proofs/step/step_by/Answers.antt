@@ -1,9 +1,7 @@
-use Rattle.derivation.proofs.StepRule.{by_atom, by_part, by_count, by_given, by_room, by_few_items, by_refused, by_scopes, by_answer}
+use Rattle.derivation.proofs.StepRule.{by_atom, by_part, by_count, by_given, by_few_items, by_refused, by_scopes, by_answer}
 use Rattle.kernel.proofs.Handed.{handed}
 use Rattle.sexp.specs.NthItem.{has_items}
 use native.Mathlib.Omega.{arith}
-use mathlib.Core.Path.{sym}
-use lib.Seq.{length-take-le}
 use Rattle.derivation.proofs.step.step_by.Goals as goal
 
 pub returns-in_default-clause-derived_as : goal.returns-in_default-clause-derived_as
@@ -20,43 +18,27 @@ offset_bounds-cells-a c = omega (
 pub slice_bounds-inner-end : goal.slice_bounds-inner-end
 slice_bounds-inner-end c = (by_part c.requires.reads c.requires.known.0 c.nth.ensures c.in-List.is).high
 
-pub count-many-requires : goal.count-many-requires
-count-many-requires c = has_items (by_part c.requires.reads c.requires.known.0 c.nth.ensures c.in-List.is).holds
+pub count-requires : goal.count-requires
+count-requires c = has_items (by_part c.requires.reads c.requires.known.0 c.nth.ensures c.in-List.is).holds
 
-pub returns-then-many-premises-clause-derived_as : goal.returns-then-many-premises-clause-derived_as
-returns-then-many-premises-clause-derived_as c = λ g. by_count g c.requires.known.0 c.nth.ensures c.in-List.is c.count-many.ensures c.premises.ensures c.if-many-premises.true
+pub returns-then-count-ids-clause-derived_as : goal.returns-then-count-ids-clause-derived_as
+returns-then-count-ids-clause-derived_as c = λ g. by_count g c.requires.known.0 c.nth.ensures c.in-List.is c.count.ensures c.requires.known.1 c.if-count-ids.true
 
 pub references-requires-clause-reads : goal.references-requires-clause-reads
-references-requires-clause-reads c = by_given c.requires.reads c.requires.known.0 c.nth.ensures c.in-List.is c.count-many.ensures c.premises.ensures c.if-many-premises.false
+references-requires-clause-reads c = by_given c.requires.reads c.requires.known.0 c.nth.ensures c.in-List.is c.count.ensures c.requires.known.1 c.if-count-ids.false
 
 pub references-requires-clause-few_items : goal.references-requires-clause-few_items
-references-requires-clause-few_items c = by_few_items c.requires.reads c.requires.known.0 c.nth.ensures c.in-List.is c.count-many.ensures c.premises.ensures
-    c.if-many-premises.false c.requires.known.1
+references-requires-clause-few_items c = by_few_items c.requires.reads c.requires.known.0 c.nth.ensures c.in-List.is c.count.ensures c.requires.known.1
+    c.if-count-ids.false
 
 pub returns-in_err-brought-clause-derived_as : goal.returns-in_err-brought-clause-derived_as
 returns-in_err-brought-clause-derived_as c = λ g. rw (handed c.from_residual.result c.from_residual.ensures)
-    (by_refused g c.requires.known.0 c.nth.ensures c.in-List.is c.count-many.ensures c.premises.ensures c.if-many-premises.false c.in_err-brought.ensures.refs_as)
-
-pub slice_bounds-step_on-end : goal.slice_bounds-step_on-end
-slice_bounds-step_on-end c = by_room c.requires.reads c.requires.known.0 c.nth.ensures c.in-List.is c.count-many.ensures c.premises.ensures c.if-many-premises.false
-    c.requires.known.1 c.references.auto.ids
-
-pub slice_bounds-step_on-end-2 : goal.slice_bounds-step_on-end-2
-slice_bounds-step_on-end-2 c = sym
-    (length-take-le c.count-many.result c.references.new.ids
-    (by_room c.requires.reads c.requires.known.0 c.nth.ensures c.in-List.is c.count-many.ensures c.premises.ensures c.if-many-premises.false
-    c.requires.known.1 c.references.auto.ids))
+    (by_refused g c.requires.known.0 c.nth.ensures c.in-List.is c.count.ensures c.requires.known.1 c.if-count-ids.false c.in_err-brought.ensures.refs_as)
 
 pub step_on-requires : goal.step_on-requires
-step_on-requires c = by_scopes c.requires.reads c.requires.known.0 c.nth.ensures c.in-List.is c.count-many.ensures c.premises.ensures c.if-many-premises.false
-    c.in_ok-brought.ensures.refs_as
-    (by_room c.requires.reads c.requires.known.0 c.nth.ensures c.in-List.is c.count-many.ensures c.premises.ensures c.if-many-premises.false
-    c.requires.known.1 c.references.auto.ids)
-    (omega arith)
+step_on-requires c = by_scopes c.requires.reads c.requires.known.0 c.nth.ensures c.in-List.is c.count.ensures c.requires.known.1 c.if-count-ids.false
+    c.in_ok-brought.ensures.refs_as c.references.auto.ids (omega arith)
 
 pub returns-clause-derived_as : goal.returns-clause-derived_as
-returns-clause-derived_as c = λ g. by_answer g c.requires.known.0 c.nth.ensures c.in-List.is c.count-many.ensures c.premises.ensures c.if-many-premises.false
-    c.in_ok-brought.ensures.refs_as _ c.insert.ensures
-    (by_room g c.requires.known.0 c.nth.ensures c.in-List.is c.count-many.ensures c.premises.ensures c.if-many-premises.false
-    c.requires.known.1 c.references.auto.ids)
-    (omega arith) _ _ _ _ c.step_on.ensures.scoped_as
+returns-clause-derived_as c = λ g. by_answer g c.requires.known.0 c.nth.ensures c.in-List.is c.count.ensures c.requires.known.1 c.if-count-ids.false
+    c.in_ok-brought.ensures.refs_as c.references.auto.ids _ c.insert.ensures (omega arith) _ _ _ _ c.step_on.ensures.scoped_as
