@@ -86,10 +86,6 @@ module _ {S P I W : List ℕ} {m : Mark} {B : List ℕ} {first place : ℕ} {ids
   unfolding concluded
   on_first = on_start g.good
 
-  abbrev pub matching_stated : StatedMatchable S P I W m B place stated
-  matching_stated =
-      record { good = g.good; symbols = g.symbols; reads = record { tree = g.rule.conclusion; stands = g.conclusion }; cells = g.cells; known = g.known }
-
   -- a: what is stated matches, or nothing is
   module _ {C : List ℕ} {a : Bool} (h : (p : Tree) → Stands S P place p →
       AllMatched (made I W m) B C (match_stated p (tree_in (made I W m) stated) (bound_of (made I W m) B)) a) where

@@ -3,13 +3,13 @@ use mathlib.Core.Path.{◌≡◌, sym, ap, ◌∙◌, subst}
 use mathlib.Core.Logic.{⊎_elim}
 use mathlib.Core.Bool.{false}
 use mathlib.Core.List.{List, [], ◌∷◌}
-use Prim.Native.Nat.{ℕ, ◌-◌, ◌*◌, ◌<◌, ◌≤◌}
+use Prim.Native.Nat.{ℕ, ◌-◌, ◌<◌, ◌≤◌}
 use native.Mathlib.Omega.{arith}
 use lib.Dec.{eqb}
-use lib.ListN.{length, get_or, take, drop, length-append}
+use lib.ListN.{length, take, drop, length-append}
 use lib.Seq.{take-length}
 use borrow.Author.Tests.{eqb-true, eq-eqb, ne_eqb}
-use Rattle.rules.specs.Limits.{PATTERNS, RULEWORDS, FACTWORDS}
+use Rattle.rules.specs.Limits.{PATTERNS, FACTWORDS}
 use Rattle.rules.specs.Out.{Out, ok, then, ask}
 use Rattle.rules.specs.Find.{Set, has, union, rising}
 use Rattle.rules.specs.Sexp.{Sexp, Sexps, count, item, rest, items}
@@ -29,7 +29,7 @@ use Rattle.sexp.specs.NthItem.{nth_text, nth_part}
 use Rattle.sexp.specs.declared.items.Item.{Item}
 use Rattle.sexp.specs.declared.items.Item.TheVariants.{Atom, List as Part}
 use Rattle.kernel.specs.Readers.{KnownRule}
-use Rattle.kernel.specs.RuleRows.{words_inside, rules_few}
+use Rattle.kernel.specs.RuleRows.{words_inside}
 use Rattle.terms.specs.declared.store.Mark.{Mark}
 use Rattle.terms.specs.Table.{made, tree, args_of}
 use Rattle.terms.specs.Sets.{holds, plus}
@@ -100,9 +100,6 @@ module _ {K : Names} {rules rulevars patterns facts footings lists : List ℕ} {
   by_rule_lem : r < length g.S.theory.rules
   by_rule_lem = omega (arith, known, g.ruled.held.many)
 
-  pub by_small : (footing : List ℕ) → length footing ≡ RULEWORDS → r < 64 * length footing
-  by_small footing e = omega (arith, known, rules_few g.ruled.held, e)
-
   -- the premises are no more than the words of patterns
   by_few : count_trees (rule g.S.theory r).premises ≤ PATTERNS
   unfolding pattern_row
@@ -172,7 +169,7 @@ module _ {K : Names} {rules rulevars patterns facts footings lists : List ℕ} {
             after = refers_went g.refers (references_keeps g.S by_part.items (made I W m) g.refers.recorded.trees) refs.went
 
             module _ (b : length ids ≡ v) where
-              filled : length ids ≡ count by_part.items
+              pub filled : length ids ≡ count by_part.items
               filled = b ∙ sym e ∙ counted
 
               abbrev pub by_scopes : length hyps ≡ FACTWORDS → Scopes K (rule_lists K.theory rules rulevars patterns) facts lists n J X new r cells ids hyps

@@ -23,7 +23,6 @@ use Rattle.sexp.specs.ItemLaws.{More}
 use Rattle.sexp.specs.WalkLaws.{Walk, walk_start, walk_more, walk_over, walk_rest}
 use Rattle.sexp.specs.FoundLaws.{found_at, found_missing}
 use Rattle.kernel.specs.Held.{SymbolsHeld}
-use Rattle.kernel.specs.Readers.{CountedSymbols}
 use Rattle.kernel.specs.SignatureRows.{symbols_few}
 use Rattle.kernel.specs.Listing.{next_constructor, with_rest, every_first}
 use Rattle.terms.specs.declared.store.Mark.{Mark}
@@ -110,9 +109,6 @@ module _ {K : Names} {facts footings lists : List ℕ} {n : Sizes} {I W : List �
     cases_done l =
         on_done (on_is h.on
         (ap (λ (zs : Sexps). induct_cases g.S (motive_in (made I W old) x sort j premises) zs (onward g.S.theory sort from) (made J X now)) (walk_over h.walk l)))
-
-    pub cases_counted : CountedSymbols K.symbols n.symbols
-    cases_counted = (K.theory, (K.inputs, (g.S.theory.symbols, g.refers.reads.spelling.held)))
 
     module _ {part : List ℕ} {next : Each} (w : Here cells part at next) where
       pub one : More h.zs
