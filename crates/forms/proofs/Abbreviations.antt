@@ -32,7 +32,7 @@ use Rattle.terms.specs.On.{Stopped}
 use Rattle.terms.specs.Laws.Numbers.{tree_number}
 use Rattle.state.specs.declared.sizes.Sizes.{Sizes}
 use Rattle.state.specs.Held.{Names, DefsHeld}
-use Rattle.state.specs.Rows.{Fits4, SomeDefs, DefFound}
+use Rattle.state.specs.Rows.{Fits4, DefFound}
 use Rattle.state.specs.Growth.{grows_ok}
 use Rattle.state.specs.Numbered.{sound_in}
 use Rattle.state.specs.DefLaws.{defs_long}
@@ -162,9 +162,6 @@ module _ {K : Names} {n : Sizes} {I W : List ℕ} {m : Mark} {cells : List ℕ} 
 
                 pub def_reads : Reads K n J X new g.S
                 def_reads = reads_term g.reads (item g.xs 2) term_read.read.went
-
-                pub def_defs : SomeDefs K.text K.defs n.defs
-                def_defs = (made J X new, g.S.defs, def_reads.spelling.defs)
 
                 module _ (q : Option ℕ) (w : (M : Made) (ds : List Def) → DefsHeld K.text K.defs n.defs M ds →
                     DefFound M ds (take (end - start) (drop start K.text)) q) where
