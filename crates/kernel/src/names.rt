@@ -58,6 +58,7 @@ impl SymbolTable<'_> {
         ensures { (ss : List Symbol) → SymbolRows self.now.text.now self.now.rows.now self.now.count ss →
             result ≡ first (called kind name.now) ss 0 }
     {
+        // a `for`: what would have to be proved of `find`'s closure is more than this loop's invariant
         for i in 0..self.count {
             if self.is_symbol(i, kind, name) {
                 return Some(i);

@@ -25,7 +25,7 @@ fn declarations(text: &[u8], cells: &mut [u32], tables: &mut Tables<'_>) -> Resu
 {
     let mut forms = 0;
     let mut at = 0;
-    // from form to form, which is no count
+    // from form to form, which is no count; a form is read into lent cells, which no iterator could lend on
     loop {
         match read_form(text, at, cells) {
             Ok(None) => return Ok(forms),

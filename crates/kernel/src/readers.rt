@@ -8,7 +8,7 @@ ghost use Rattle.kernel.specs.Listing.{next_constructor};
 
 use sexp::names::named;
 
-// How many arguments symbol c takes.
+// How many arguments symbol c takes; `arity_of` of `terms` asks the same of symbols without a theory, this one speaks of the theory.
 pub fn arity(symbols: &[u32], c: usize) -> usize
     requires { KnownSymbol symbols.now c }
     ensures { (T : Theory) (text inputs : List ℕ) (count : ℕ) → SymbolsHeld text symbols.now inputs count T.symbols → c < count →
@@ -51,6 +51,7 @@ pub fn next_constructor(symbols: &[u32], count: usize, sort: usize, from: usize)
     ensures { (T : Theory) (text inputs : List ℕ) → SymbolsHeld text symbols.now inputs count T.symbols →
         result ≡ next_constructor T sort from }
 {
+    // a `for`: what would have to be proved of `find`'s closure is more than this loop's invariant
     for i in from..count {
         if output(symbols, i) == sort {
             return Some(i);

@@ -34,76 +34,70 @@ fn span_at(table: &[u32], at: usize) -> Span
     }
 }
 
-// The rule with these bytes for a name.
-pub fn rule_named(text: &[u8], rules: &[u32], count: usize, name: &[u8]) -> Option<usize>
-    requires { NamedRules text.now rules.now count }
-    ensures { (T : Theory) (vars patterns : List ℕ) (words : ℕ) → RulesHeld text.now rules.now vars patterns count words T.rules →
-        result ≡ rule_named T name.now }
-{
-    named(text, rules, 6, 0, count, name)
-}
-
-// Where the name of rule r stands in the text.
-pub fn rule_name(rules: &[u32], r: usize) -> Span
-    requires { KnownRule rules.now r }
-    ensures { (T : Theory) (text vars patterns : List ℕ) (count words : ℕ) → RulesHeld text rules.now vars patterns count words T.rules → r < count →
-        Spans text (rule T r).name result.from result.end }
-{
-    span_at(rules, 6 * r)
-}
-
-// How many variables rule r has.
-pub fn variables(rules: &[u32], r: usize) -> usize
-    requires { KnownRule rules.now r }
-    ensures { (T : Theory) (text vars patterns : List ℕ) (count words : ℕ) → RulesHeld text rules.now vars patterns count words T.rules → r < count →
-        result ≡ length (rule T r).vars }
-{
-    rules[6 * r + 2] as usize
-}
-
-// How many premises rule r has.
-pub fn premises(rules: &[u32], r: usize) -> usize
-    requires { KnownRule rules.now r }
-    ensures { (T : Theory) (text vars patterns : List ℕ) (count words : ℕ) → RulesHeld text rules.now vars patterns count words T.rules → r < count →
-        result ≡ count_trees (rule T r).premises }
-{
-    rules[6 * r + 3] as usize
-}
-
-// The words of rule r: its premises in order, then its conclusion.
-pub fn words(rules: &[u32], r: usize) -> Span
-    requires { KnownRule rules.now r }
-    ensures { (T : Theory) (text vars patterns : List ℕ) (count used : ℕ) → RulesHeld text rules.now vars patterns count used T.rules → r < count →
-        WordsAt patterns T r result }
-{
-    span_at(rules, 6 * r + 4)
-}
-
-// The sort of variable i of rule r.
-pub fn variable_sort(vars: &[u32], r: usize, i: usize) -> usize
-    requires { KnownVar vars.now r i }
-    ensures { (T : Theory) (text rules patterns : List ℕ) (count words : ℕ) → RulesHeld text rules vars.now patterns count words T.rules → r < count →
-        i < length (rule T r).vars → result ≡ (get_or (rule T r).vars i no_rule_var).sort }
-{
-    vars[3 * (rules::RULEVARS * r + i)] as usize
-}
-
-// The variable of rule r with these bytes for a name; `count` is how many it has.
-pub fn rule_var_named(
-    text: &[u8],
-    vars: &[u32],
-    r: usize,
-    count: usize,
-    name: &[u8],
-) -> Option<usize>
-    requires { NamedVars text.now vars.now r count }
-    ensures { (T : Theory) (rules patterns : List ℕ) (known words : ℕ) → RulesHeld text.now rules vars.now patterns known words T.rules →
-        r < known → count ≡ length (rule T r).vars → result ≡ first (λ v. same v.name.bytes name.now) (rule T r).vars 0 }
-{
-    named(text, vars, 3, 3 * rules::RULEVARS * r + 1, count, name)
-}
-
 impl Rules<'_> {
+    // The rule with these bytes for a name; `count` is how many there are.
+    pub fn rule_named(&self, text: &[u8], count: usize, name: &[u8]) -> Option<usize>
+        requires { NamedRules text.now self.now.rows.now count }
+        ensures { (T : Theory) (vars patterns : List ℕ) (words : ℕ) → RulesHeld text.now self.now.rows.now vars patterns count words T.rules →
+            result ≡ rule_named T name.now }
+    {
+        named(text, self.rows, 6, 0, count, name)
+    }
+
+    // Where the name of rule r stands in the text.
+    pub fn rule_name(&self, r: usize) -> Span
+        requires { KnownRule self.now.rows.now r }
+        ensures { (T : Theory) (text vars patterns : List ℕ) (count words : ℕ) → RulesHeld text self.now.rows.now vars patterns count words T.rules →
+            r < count → Spans text (rule T r).name result.from result.end }
+    {
+        span_at(self.rows, 6 * r)
+    }
+
+    // How many variables rule r has.
+    pub fn variables(&self, r: usize) -> usize
+        requires { KnownRule self.now.rows.now r }
+        ensures { (T : Theory) (text vars patterns : List ℕ) (count words : ℕ) → RulesHeld text self.now.rows.now vars patterns count words T.rules →
+            r < count → result ≡ length (rule T r).vars }
+    {
+        self.rows[6 * r + 2] as usize
+    }
+
+    // How many premises rule r has.
+    pub fn premises(&self, r: usize) -> usize
+        requires { KnownRule self.now.rows.now r }
+        ensures { (T : Theory) (text vars patterns : List ℕ) (count words : ℕ) → RulesHeld text self.now.rows.now vars patterns count words T.rules →
+            r < count → result ≡ count_trees (rule T r).premises }
+    {
+        self.rows[6 * r + 3] as usize
+    }
+
+    // The words of rule r: its premises in order, then its conclusion.
+    pub fn words(&self, r: usize) -> Span
+        requires { KnownRule self.now.rows.now r }
+        ensures { (T : Theory) (text vars patterns : List ℕ) (count used : ℕ) → RulesHeld text self.now.rows.now vars patterns count used T.rules →
+            r < count → WordsAt patterns T r result }
+    {
+        span_at(self.rows, 6 * r + 4)
+    }
+
+    // The sort of variable i of rule r.
+    pub fn variable_sort(&self, r: usize, i: usize) -> usize
+        requires { KnownVar self.now.vars.now r i }
+        ensures { (T : Theory) (text rules patterns : List ℕ) (count words : ℕ) → RulesHeld text rules self.now.vars.now patterns count words T.rules →
+            r < count → i < length (rule T r).vars → result ≡ (get_or (rule T r).vars i no_rule_var).sort }
+    {
+        self.vars[3 * (rules::RULEVARS * r + i)] as usize
+    }
+
+    // The variable of rule r with these bytes for a name; `count` is how many it has.
+    pub fn rule_var_named(&self, text: &[u8], r: usize, count: usize, name: &[u8]) -> Option<usize>
+        requires { NamedVars text.now self.now.vars.now r count }
+        ensures { (T : Theory) (rules patterns : List ℕ) (known words : ℕ) → RulesHeld text.now rules self.now.vars.now patterns known words T.rules →
+            r < known → count ≡ length (rule T r).vars → result ≡ first (λ v. same v.name.bytes name.now) (rule T r).vars 0 }
+    {
+        named(text, self.vars, 3, 3 * rules::RULEVARS * r + 1, count, name)
+    }
+
     // The place of the first word of the conclusion of rule r: behind the words of its premises.
     pub fn conclusion(&self, symbols: &[u32], r: usize) -> usize
         requires { KnownFormedRule symbols.now self.now.rows.now self.now.patterns.now r }
@@ -114,7 +108,7 @@ impl Rules<'_> {
             symbols,
             words: self.patterns,
         };
-        patterns.skip(words(self.rows, r).from, premises(self.rows, r))
+        patterns.skip(self.words(r).from, self.premises(r))
     }
 
     // Whether the conclusion of rule r is of that predicate.
@@ -138,6 +132,7 @@ impl Rules<'_> {
         requires { SomeFormedRules symbols.now self.now.rows.now self.now.patterns.now count }
         ensures { (T : Theory) → FormedRules symbols.now self.now.rows.now self.now.patterns.now count T → result ≡ next_rule T predicate from }
     {
+        // a `for`: what would have to be proved of `find`'s closure is more than this loop's invariant
         for i in from..count {
             if self.concludes(symbols, i, predicate) {
                 return Some(i);

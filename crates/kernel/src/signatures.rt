@@ -88,7 +88,8 @@ fn store(
     Ok(())
 }
 
-// `(ctor NAME (SORT...) SORT)`, given the items of the form.
+// `(ctor NAME (SORT...) SORT)`, given the items of the form. Not one function with `add_pred`: the sort is asked between the arguments and the
+// name; one function would take it as an option.
 pub fn add_ctor(text: &[u8], form: &[u32], tables: &mut Tables<'_>) -> Result<(), Question>
     requires form { Form text.now form.now 4 }
     requires held { HoldingSome text.now tables.old }

@@ -1,12 +1,12 @@
 use native.Mathlib.Omega.{arith}
 use Rattle.kernel.specs.RuleRows.{rule_place, words_at}
-use Rattle.kernel.proofs.rule_readers.words.Goals as goal
+use Rattle.kernel.proofs.rule_readers.Rules.words.Goals as goal
 
 pub overflow_mul-r : goal.overflow_mul-r
-overflow_mul-r c = omega (arith, rule_place c.requires, c.well_formed.0)
+overflow_mul-r c = omega (arith, rule_place c.requires, c.well_formed)
 
 pub overflow_add-r : goal.overflow_add-r
-overflow_add-r c = omega (arith, rule_place c.requires, c.well_formed.0)
+overflow_add-r c = omega (arith, rule_place c.requires, c.well_formed)
 
 pub span_at-requires : goal.span_at-requires
 span_at-requires c = omega (arith, rule_place c.requires)

@@ -1,5 +1,5 @@
 use Rattle.kernel.specs.RuleRows.{some_rule_names, rule_is}
-use Rattle.kernel.proofs.rule_readers.rule_named.Goals as goal
+use Rattle.kernel.proofs.rule_readers.Rules.rule_named.Goals as goal
 
 pub named-requires : goal.named-requires
 named-requires c = some_rule_names c.requires

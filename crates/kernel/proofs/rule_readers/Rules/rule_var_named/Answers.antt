@@ -1,6 +1,6 @@
 use Rattle.kernel.specs.RuleRows.{some_var_names, named_few, var_is}
 use native.Mathlib.Omega.{arith}
-use Rattle.kernel.proofs.rule_readers.rule_var_named.Goals as goal
+use Rattle.kernel.proofs.rule_readers.Rules.rule_var_named.Goals as goal
 
 pub overflow_mul-r : goal.overflow_mul-r
 overflow_mul-r c = omega (arith, named_few c.requires)
