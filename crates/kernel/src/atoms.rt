@@ -5,6 +5,8 @@ ghost use Rattle.rules.specs.Lex.{letters};
 ghost use Rattle.rules.specs.Sexp.{marked};
 ghost use Rattle.kernel.specs.Held.{NameFits};
 
+use cells::Span;
+
 // Whether the atom at a place starts with `?`.
 pub fn marked(text: &[u8], start: usize) -> bool
     requires { start < length text.now }
@@ -14,10 +16,10 @@ pub fn marked(text: &[u8], start: usize) -> bool
 }
 
 // A name's two cells.
-pub fn put_name(table: &mut [u32], at: usize, start: usize, end: usize)
-    requires { NameFits (length table.old) at start end }
-    ensures { table.new ≡ sets table.old at (start ∷ end ∷ []) }
+pub fn put_name(table: &mut [u32], at: usize, name: Span)
+    requires { NameFits (length table.old) at name.from name.end }
+    ensures { table.new ≡ sets table.old at (name.from ∷ name.end ∷ []) }
 {
-    table[at] = start as u32;
-    table[at + 1] = end as u32;
+    table[at] = name.from as u32;
+    table[at + 1] = name.end as u32;
 }

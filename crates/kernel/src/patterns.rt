@@ -14,6 +14,7 @@ ghost use Rattle.sexp.specs.NameRows.{NameRows, SomeNames};
 
 use crate::atoms::{marked, put_name};
 use crate::names::{Kind, SymbolTable};
+use cells::Span;
 use questions::{Question, Row};
 use sexp::lex;
 use sexp::names::named;
@@ -55,17 +56,17 @@ impl RuleReader<'_, '_> {
     }
 
     // The number of a variable that was met before, with the sort it had, or of a new one.
-    fn met_or_new(&mut self, start: usize, end: usize, sort: usize) -> Result<usize, Question>
-        requires { MeetingAt self.old start end sort }
+    fn met_or_new(&mut self, name: Span, sort: usize) -> Result<usize, Question>
+        requires { MeetingAt self.old name.from name.end sort }
         ensures same_tables { SameTables self.old self.new }
         ensures same_words { SameWords self.old self.new }
         ensures met { (R : Reading) (n : Name) → VarsHeld self.old.known.text.now self.old.vars.now self.old.count R.vars →
-            Spans self.old.known.text.now n start end →
+            Spans self.old.known.text.now n name.from name.end →
             MetRead self.old.known.text.now self.new.vars.now self.new.count R (met_or_new n sort (var_named R.vars n.bytes) R) result }
     {
         let text = self.known.text;
         let count = self.count;
-        if let Some(i) = self.numbered(&text[start..end]) {
+        if let Some(i) = self.numbered(&text[name.from..name.end]) {
             let had = self.vars[3 * i] as usize;
             if had == sort {
                 return Ok(i);
@@ -77,7 +78,7 @@ impl RuleReader<'_, '_> {
         }
         let at = 3 * count;
         self.vars[at] = sort as u32;
-        put_name(self.vars, at + 1, start, end);
+        put_name(self.vars, at + 1, name);
         self.count = count + 1;
         Ok(count)
     }
@@ -94,7 +95,8 @@ impl RuleReader<'_, '_> {
         if end - start < 2 {
             return Err(Question::Declared);
         }
-        let i = self.met_or_new(start, end, sort)?;
+        let name = Span { from: start, end };
+        let i = self.met_or_new(name, sort)?;
         self.word(rules::SYMBOLS + i)?;
         Ok(())
     }

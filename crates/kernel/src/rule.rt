@@ -13,7 +13,7 @@ use crate::names::SymbolTable;
 use crate::patterns::RuleReader;
 use crate::symbols::proper_at;
 use crate::tables::Counts;
-use cells::write;
+use cells::{Span, write};
 use questions::{Question, Row};
 use sexp::items;
 use sexp::items::Item;
@@ -87,12 +87,10 @@ fn premise_count(form: &[u32]) -> usize
 // What the row of a rule says: where its name stands, how many variables and premises it has, and where its words stand.
 #[derive(Clone, Copy)]
 pub struct RuleRow {
-    pub start: usize,
-    pub end: usize,
+    pub name: Span,
     pub variables: usize,
     pub premises: usize,
-    pub first: usize,
-    pub last: usize,
+    pub words: Span,
 }
 
 // Stores a rule, if there is room.
@@ -103,20 +101,20 @@ fn store(
     row: RuleRow,
     names: &[u32],
 ) -> Result<(), Row>
-    requires { RuleFits (length rules.old) (length vars.old) row.start row.end row.variables row.premises row.first row.last (length names.now) }
-    ensures { (text patterns : List ℕ) (rs : List Rule) (u : Rule) → RulesHeld text rules.old vars.old patterns count row.first rs →
-        RuleIs text patterns u row.start row.end row.variables row.premises row.first row.last names.now →
-        RulePut text rules.old vars.old rules.new vars.new patterns count row.last rs u result }
+    requires { RuleFits (length rules.old) (length vars.old) row.name.from row.name.end row.variables row.premises row.words.from row.words.end (length names.now) }
+    ensures { (text patterns : List ℕ) (rs : List Rule) (u : Rule) → RulesHeld text rules.old vars.old patterns count row.words.from rs →
+        RuleIs text patterns u row.name.from row.name.end row.variables row.premises row.words.from row.words.end names.now →
+        RulePut text rules.old vars.old rules.new vars.new patterns count row.words.end rs u result }
 {
     if count >= rules::RULES {
         return Err(Row::Rules);
     }
     let at = 6 * count;
-    put_name(rules, at, row.start, row.end);
+    put_name(rules, at, row.name);
     rules[at + 2] = row.variables as u32;
     rules[at + 3] = row.premises as u32;
-    rules[at + 4] = row.first as u32;
-    rules[at + 5] = row.last as u32;
+    rules[at + 4] = row.words.from as u32;
+    rules[at + 5] = row.words.end as u32;
     write(&mut vars[3 * rules::RULEVARS * count..], names);
     Ok(())
 }
@@ -154,12 +152,13 @@ pub fn add_rule(
         return Err(Question::Declared);
     };
     let entry = RuleRow {
-        start: name.from,
-        end: name.end,
+        name,
         variables: size.variables,
         premises: premise_count(form),
-        first: held.words,
-        last: size.words,
+        words: Span {
+            from: held.words,
+            end: size.words,
+        },
     };
     store(rules, vars, held.rules, entry, &row)?;
     Ok(size.words)

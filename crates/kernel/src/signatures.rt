@@ -82,7 +82,7 @@ fn store(
     let at = 4 * count;
     tables.symbols[at] = output as u32;
     tables.symbols[at + 1] = arity as u32;
-    put_name(tables.symbols, at + 2, name.from, name.end);
+    put_name(tables.symbols, at + 2, name);
     write(&mut tables.inputs[rules::ARGUMENTS * count..], row);
     tables.held.symbols = count + 1;
     Ok(())

@@ -76,7 +76,7 @@ pub fn add_sort(text: &[u8], form: &[u32], tables: &mut Tables<'_>) -> Result<()
     if count >= rules::SORTS {
         return Err(Question::Room(Row::Sorts));
     }
-    put_name(sorts, 2 * count, name.from, name.end);
+    put_name(sorts, 2 * count, name);
     tables.held.sorts = count + 1;
     Ok(())
 }

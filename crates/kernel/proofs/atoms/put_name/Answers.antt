@@ -5,4 +5,4 @@ use lib.ListN.{set}
 use Rattle.kernel.proofs.atoms.put_name.Goals as goal
 
 pub returns : goal.returns
-returns c = ap (λ (k : ℕ). set (set c.args.table.now c.args.at c.args.start) k c.args.end) (add-one c.args.at)
+returns c = ap (λ (k : ℕ). set (set c.args.table.now c.args.at c.args.name.from) k c.args.name.end) (add-one c.args.at)
