@@ -36,8 +36,8 @@ use Rattle.terms.specs.Laws.Sets.{plus_has}
 use Rattle.cells.specs.declared.Span.{Span}
 use Rattle.kernel.specs.Readers.{WordsAt}
 use Rattle.kernel.specs.Entries.{rule_formed}
+use Rattle.kernel.specs.RuleWords.{premises_stand}
 use Rattle.state.specs.declared.sizes.Sizes.{Sizes}
-use Rattle.state.specs.RuleWords.{premises_stand}
 use Rattle.reading.specs.Laws.Walks.{then_same}
 use Rattle.casework.specs.Context.{plainly, plains_of, others_of, trees_of, PlainAdds, RenamedRule, PremisesRead}
 use Rattle.casework.specs.Laws.Facts.{plains_append, others_append, plain_more, plain_none}

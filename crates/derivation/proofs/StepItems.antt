@@ -11,6 +11,7 @@ use Rattle.rules.specs.Store.{Made}
 use Rattle.rules.specs.Theory.{Theory, rule}
 use Rattle.rules.specs.Step.{Items, no_items, read_items}
 use Rattle.kernel.specs.Readers.{FormedRules, WordsAt, conclusion_at}
+use Rattle.kernel.specs.RuleWords.{conclusion_stands, premises_stand}
 use Rattle.cells.specs.declared.Span.{Span}
 use Rattle.terms.specs.declared.store.Mark.{Mark}
 use Rattle.terms.specs.Table.{made, tree, args_of}
@@ -23,7 +24,6 @@ use Rattle.terms.specs.Laws.Sets.{holds_zero}
 use Rattle.terms.specs.Laws.Seen.{seen_none}
 use Rattle.state.specs.declared.sizes.Sizes.{Sizes}
 use Rattle.state.specs.Held.{Names, rule_lists}
-use Rattle.state.specs.RuleWords.{conclusion_stands, premises_stand}
 use Rattle.reading.specs.Answers.{TermRead}
 use Rattle.referring.specs.Referral.{Gathered}
 use Rattle.referring.specs.Derived.{RuleItems, ItemsRead, cell_vars}

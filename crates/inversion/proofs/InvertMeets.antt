@@ -33,8 +33,8 @@ use Rattle.terms.specs.Laws.Growth.{grown_tree, grown_there, grown_trans}
 use Rattle.terms.specs.Laws.Numbers.{made_closed}
 use Rattle.kernel.specs.Readers.{conclusion_at}
 use Rattle.kernel.specs.Entries.{rule_formed}
+use Rattle.kernel.specs.RuleWords.{conclusion_stands}
 use Rattle.state.specs.declared.sizes.Sizes.{Sizes}
-use Rattle.state.specs.RuleWords.{conclusion_stands}
 use Rattle.casework.specs.Context.{There}
 use Rattle.inversion.specs.InvertRules.{Meeting, Empty, meets, MetBy, VarsKept}
 use Rattle.inversion.specs.Inverting.{EmptyScratch, ScratchKept}

@@ -15,7 +15,6 @@ pub mod Recording
 pub mod RowCells
 pub mod RowTables
 pub mod Rows
-pub mod RuleWords
 pub mod Stands
 pub mod Updates
 pub mod Used
