@@ -13,7 +13,7 @@ use lib.Seq.{drop-cons, get_or-append-add, take-append_seam}
 use denote.Ref.{Bor}
 use Rattle.rules.specs.Text.{same}
 use Rattle.rules.specs.Out.{ok, refuse, ask}
-use Rattle.rules.specs.Sexp.{Sexp, Sexps, nil, cons, count, item, rest}
+use Rattle.rules.specs.Sexp.{Sexp, Sexps, atom, list, nil, cons, count, item, rest}
 use Rattle.rules.specs.Find.{any}
 use Rattle.rules.specs.Store.{Made}
 use Rattle.rules.specs.State.{State}
@@ -24,10 +24,24 @@ use Rattle.sexp.specs.Encode.{encode, encodes}
 use Rattle.sexp.specs.Spelt.{Spells}
 use Rattle.sexp.specs.Items.{Holds, item_at, behind}
 use Rattle.sexp.specs.Never.{never}
-use Rattle.sexp.specs.WalkLaws.{Walk, walk_start, walk_over, walk_rest}
+use Rattle.casework.specs.Laws.CaseItems.{list_items, not_both}
+use Rattle.sexp.specs.WalkLaws.{ListIs, Walk, walk_start, walk_over, walk_rest}
 use Rattle.reading.specs.Laws.Walks.{Here, here, go_on}
 use Rattle.casework.specs.Cases.{no_case, CaseItem, CaseFirst, CasesIn, CaseHere, CaseFound, Kept, Naming, CasesAre}
 use Rattle.casework.specs.declared.distinct.NameTree.{NameTree}
+
+-- Its name -----------------------------------------------------------------------------------------------------------------------------------
+
+module _ {text cells : List ℕ} (g : CaseFirst text cells) {a b : ℕ} (l : ListIs text cells g.x a b) where
+  inner_name : item l.items 0 ≡ atom g.case.place g.c.name
+  inner_name = ap (λ (z : Sexps). item z 0) (list_items l.items g.case.inner (sym l.is ∙ g.case.is)) ∙ g.case.named
+
+  -- it is not a list
+  pub head_never : {A : Type 0} → ((xs : Sexps) × (item l.items 0 ≡ list xs)) → A
+  head_never h = not_both (item l.items 0) h.0 g.case.place g.c.name h.1 inner_name
+
+  pub head_is : {own : List ℕ} → ((p : ℕ) × (item l.items 0 ≡ atom p own)) → own ≡ g.c.name
+  head_is {own} h = let z : atom h.0 own ≡ atom g.case.place g.c.name = sym h.1 ∙ inner_name in cc
 
 -- The case of a name -------------------------------------------------------------------------------------------------------------------------
 

@@ -1,7 +1,6 @@
 pub mod Allow
 pub mod Clear
 pub mod Finding
-pub mod Parts
 pub mod Premises
 pub mod Reading
 pub mod Taken

@@ -241,9 +241,6 @@ module _ {symbols rules patterns : List ℕ} {n : Sizes} {I W : List ℕ} {old :
         went : Went Y Z Y' Z' mid (substitute (replacement (made Y Z mid) theta) (tree Y Z mid t) (made Y Z mid)) (tree Y' Z' new u) new
         went = under_went (grown_refl premising_good) theta (theta_grown whole_grown c).bound premising_there s f
 
-        pub premising_room : Good Y' Z' new
-        premising_room = went.grown.good
-
         adds_one : {set'' : List ℕ} → holds set'' ≡ plus u (holds set') → PlainAdds (made Y' Z' new) set' set'' (tree Y' Z' new u ∷ [])
         unfolding trees_of has
         adds_one d =

@@ -91,15 +91,6 @@ module _ {text places links : List ℕ} {many : ℕ} (t : Tree text places links
       some_node : 1 ≤ get_or links cell 0
       some_node = omega (arith, z)
 
-      pub node_room : 2 * get_or links cell 0 + 1 < length places
-      node_room = let k = t.known cell in omega (arith, k, t.room)
-
-      pub node_low : get_or places (2 * get_or links cell 0) 0 ≤ get_or places (2 * get_or links cell 0 + 1) 0
-      node_low = t.low (get_or links cell 0) some_node (t.known cell)
-
-      pub node_high : get_or places (2 * get_or links cell 0 + 1) 0 ≤ length text
-      node_high = t.high (get_or links cell 0) some_node (t.known cell)
-
       module _ {b : Bool} (e : b ≡ same (name_of text places (get_or links cell 0)) name) where
         pub sought_met : b ≡ true → IsMet text places many name
         sought_met y = record {
@@ -157,7 +148,7 @@ module _ {text places links : List ℕ} {many : ℕ} (t : Tree text places links
       get_or-set_other (set places (2 * (many + 1)) start) (2 * (many + 1) + 1) i end 0 (λ q. omega (arith, q, h))
       ∙ get_or-set_other places (2 * (many + 1)) i start 0 (λ q. omega (arith, q, h))
 
-  pub placed_long : length placed ≡ length places
+  placed_long : length placed ≡ length places
   placed_long = length-set (set places (2 * (many + 1)) start) (2 * (many + 1) + 1) end ∙ length-set places (2 * (many + 1)) start
 
   cell_there : cell < length links
@@ -218,6 +209,3 @@ module _ {text places links : List ℕ} {many : ℕ} (t : Tree text places links
 
   pub entered : Entered text places placed linked many (many + 1) (between text start end)
   entered = record { new = f.new; tree = tree_more; own = own_name; others = other_name; count = refl }
-
-  pub linked_long : length linked ≡ length links
-  linked_long = length-set links cell (many + 1)

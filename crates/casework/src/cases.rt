@@ -68,11 +68,10 @@ fn is_named(text: &[u8], cells: &[u32], name: &[u8]) -> bool
     let Item::List(a, b) = items::item_at(cells, 0) else {
         return false;
     };
-    let Item::Atom(start) = items::item_at(&cells[a..b], 0) else {
+    let Some(own) = items::head(text, &cells[a..b]) else {
         return false;
     };
-    let end = lex::atom_end(text, start);
-    same(&text[start..end], name)
+    same(own, name)
 }
 
 // The case with that name, the first one of those in the cells: the cells from it on.

@@ -29,6 +29,9 @@ use Rattle.state.specs.declared.sizes.Sizes.{Sizes}
 use Rattle.cells.specs.declared.Span.{Span}
 use Rattle.state.specs.Rows.{hyps_span}
 use Rattle.state.specs.Entries.{part}
+use Rattle.referring.specs.declared.source.Facts.{Facts}
+use Rattle.referring.specs.declared.source.Source.{Source}
+use Rattle.referring.specs.Sources.{facts_of}
 use Rattle.referring.specs.Recall.{fact_of, Recalls}
 use Rattle.casework.specs.Context.{There, ContextGiven, ContextRead, all_of, PremisesRead}
 use Rattle.inversion.specs.InvertRules.{Judging, judged, judges, own_span, Verdict, verdict_of, JudgedBy, Having, has_case, meets, Met, MetBy}
@@ -41,6 +44,11 @@ use Rattle.inversion.proofs.InvertRests.{rests_all, said, said_is, asked}
 
 abbrev span_by : List ℕ → ℕ → Bool → Span
 span_by facts i b = elim b as (λ (z : Bool). Span) [ true ↦ hyps_span facts i | false ↦ record { from = 0; end = 0 } ]
+
+-- as `own_hyps` answers them
+pub own_said : (s : Source) {f : Facts} {own : List ℕ} (i : ℕ) → f ≡ facts_of s → own ≡ part f.lists.now (own_span f.rows.now f.n i) →
+    own ≡ part s.lists.now (own_span s.rows.now s.reader.n i)
+own_said s i e o = o ∙ ap (λ (f : Facts). part f.lists.now (own_span f.rows.now f.n i)) e
 
 module _ {facts lists : List ℕ} {n : Sizes} {I W : List ℕ} {m : Mark} (g : Recalls facts lists n I W m) where
   module _ (i : ℕ) {s : Span} (e : s ≡ own_span facts n i) where

@@ -1,9 +1,8 @@
-use mathlib.Core.Path.{ap, ◌∙◌}
-use native.Mathlib.Omega.{arith}
+use Rattle.std.proofs.Common.{ap, ◌∙◌, arith}
 use Rattle.rules.specs.Text.{same}
-use Rattle.sexp.specs.AtomText.{atom_part, atom_high}
 use Rattle.reading.specs.Laws.Walks.{first_some}
-use Rattle.casework.specs.Laws.CaseItems.{named_atom, named_list, named_some, named_never, named_inside, named_bytes}
+use Rattle.casework.specs.Laws.CaseItems.{named_atom, named_list}
+use Rattle.casework.proofs.Finding.{head_is, head_never}
 use Rattle.casework.proofs.cases.is_named.Goals as goal
 
 pub item_at-requires : goal.item_at-requires
@@ -15,28 +14,21 @@ returns-in_default c = λ g. named_atom g c.item_at.ensures c.in_default.is
 pub offset_bounds-cells-a : goal.offset_bounds-cells-a
 offset_bounds-cells-a c = omega (arith, (named_list c.requires c.item_at.ensures c.in-List.is).low, (named_list c.requires c.item_at.ensures c.in-List.is).high, c.well_formed.1.0)
 
-pub slice_bounds-item_at-count : goal.slice_bounds-item_at-count
-slice_bounds-item_at-count c = (named_list c.requires c.item_at.ensures c.in-List.is).low
+pub slice_bounds-head-count : goal.slice_bounds-head-count
+slice_bounds-head-count c = (named_list c.requires c.item_at.ensures c.in-List.is).low
 
-pub slice_bounds-item_at-start : goal.slice_bounds-item_at-start
-slice_bounds-item_at-start c = (named_list c.requires c.item_at.ensures c.in-List.is).low
+pub slice_bounds-head-start : goal.slice_bounds-head-start
+slice_bounds-head-start c = (named_list c.requires c.item_at.ensures c.in-List.is).low
 
-pub slice_bounds-item_at-end : goal.slice_bounds-item_at-end
-slice_bounds-item_at-end c = (named_list c.requires c.item_at.ensures c.in-List.is).high
+pub slice_bounds-head-end : goal.slice_bounds-head-end
+slice_bounds-head-end c = (named_list c.requires c.item_at.ensures c.in-List.is).high
 
-pub item_at-requires-2 : goal.item_at-requires-2
-item_at-requires-2 c = named_some c.requires c.item_at.ensures c.in-List.is
+pub head-requires : goal.head-requires
+head-requires c = let l = named_list c.requires c.item_at.ensures c.in-List.is in (l.items, l.holds)
 
-pub returns-in_default-item_at : goal.returns-in_default-item_at
-returns-in_default-item_at c = λ g. named_never g c.item_at.ensures c.in-List.is c.item_at-2.ensures c.in_default-item_at.is
-
-pub atom_end-end-requires : goal.atom_end-end-requires
-atom_end-end-requires c = omega (arith, named_inside c.requires c.item_at.ensures c.in-List.is c.item_at-2.ensures c.in-Atom.is)
-
-pub slice_bounds-same-end : goal.slice_bounds-same-end
-slice_bounds-same-end c = atom_high _ _ _ (named_inside c.requires c.item_at.ensures c.in-List.is c.item_at-2.ensures c.in-Atom.is) c.atom_end-end.ensures
+pub returns-in_default-head : goal.returns-in_default-head
+returns-in_default-head c = λ g. let l = named_list g c.item_at.ensures c.in-List.is in head_never g l ((rw c.in_default-head.is at c.head.ensures) l.items l.holds)
 
 pub returns : goal.returns
-returns c = λ g. c.same.ensures ∙ ap (λ bs. same bs _)
-    (atom_part _ _ _ (named_inside g c.item_at.ensures c.in-List.is c.item_at-2.ensures c.in-Atom.is) c.atom_end-end.ensures ∙
-    named_bytes g c.item_at.ensures c.in-List.is c.item_at-2.ensures c.in-Atom.is)
+returns c = λ g. let l = named_list g c.item_at.ensures c.in-List.is in
+    c.same.ensures ∙ ap (λ bs. same bs c.args.name.now) (head_is g l ((rw c.in-Some.is at c.head.ensures) l.items l.holds))
