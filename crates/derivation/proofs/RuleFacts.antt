@@ -27,7 +27,7 @@ use Rattle.state.specs.Held.{records}
 use Rattle.state.specs.Rows.{cell, hyps_span, general_span, plain_row}
 use Rattle.state.specs.Entries.{part}
 use Rattle.state.specs.FactLaws.{FactRow, fact_row_lem}
-use Rattle.referring.specs.Recall.{fact_of, RecallsFact}
+use Rattle.referring.specs.Recall.{fact_of}
 use Rattle.referring.specs.Laws.Refers.{fact_asks}
 use Rattle.questions.specs.declared.Question.TheVariants.{Binding as OfBinding, Hypothesis as OfHypothesis}
 use Rattle.derivation.specs.Applying.{RuleFact, rule_of, ApplicableAs}
@@ -39,10 +39,6 @@ module _ {facts lists : List ℕ} {i : ℕ} (g : RuleFact facts lists i) where
   -- what the readers of the fact ask
   pub rule_asks : (length facts ≡ 6 * FACTS) × (i < FACTS)
   rule_asks = fact_asks g.recorded g.there
-
-  -- what the readers of its lists ask
-  pub rule_recalls : (footings : List ℕ) × RecallsFact facts footings lists i
-  rule_recalls = (g.footings, record { S = g.S; n = g.n; trees = g.trees; recorded = g.recorded; there = g.there })
 
 -- Tests on a list -------------------------------------------------------------------------------------------------------------------
 

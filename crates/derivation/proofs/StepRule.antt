@@ -44,7 +44,7 @@ use Rattle.referring.specs.declared.support.Support.{Support}
 use Rattle.referring.specs.declared.support.Derived.{Derived}
 use Rattle.derivation.specs.declared.step.Brought.{Brought}
 use Rattle.referring.specs.Recall.{Refers}
-use Rattle.referring.specs.Derived.{RuleForm, FactForm, FewItems, RefsRead, DerivedRead, DerivedBy, derived_fact, with_instances}
+use Rattle.referring.specs.Derived.{RuleForm, FactForm, RefsRead, DerivedRead, DerivedBy, derived_fact, with_instances}
 use Rattle.derivation.specs.Stepping.{Scopes, ScopedBy, PremisesOf, in_scope, by_rule}
 use Rattle.referring.specs.Laws.Refers.{refers_went}
 use Rattle.derivation.proofs.RulePremises.{has_one}
@@ -150,10 +150,6 @@ module _ {K : Names} {rules rulevars patterns facts footings lists : List ℕ} {
 
           abbrev pub by_given : FactForm K facts footings lists n I W m (take (end - start) (drop start cells)) 0
           by_given = record { S = g.S; xs = by_part.items; refers = g.refers; holds = by_part.holds; many = omega arith }
-
-          -- a cell for each premise is one for each reference
-          pub by_few_items : FewItems (take (end - start) (drop start cells)) v
-          by_few_items ys q = omega (arith, c ys q, e)
 
           pub by_refused : {J X : List ℕ} {new : Mark} {c d : ℕ} → ((h : FactForm K facts footings lists n I W m (take (end - start) (drop start cells)) 0) →
               Stopped I W J X m (references h.S h.xs (made I W m)) c d new) → Stopped I W J X m whole c d new

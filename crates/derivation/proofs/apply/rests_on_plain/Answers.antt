@@ -1,10 +1,7 @@
-use Rattle.derivation.proofs.RuleFacts.{rule_recalls, hyps_begin, hyp_asks, hyp_other, hyps_again, hyps_done}
+use Rattle.derivation.proofs.RuleFacts.{hyps_begin, hyp_asks, hyp_other, hyps_again, hyps_done}
 use mathlib.Core.Path.{ap}
 use mathlib.Core.Bool.{not}
 use Rattle.derivation.proofs.apply.rests_on_plain.Goals as goal
-
-pub hyps-h-items-requires : goal.hyps-h-items-requires
-hyps-h-items-requires c = rule_recalls c.requires
 
 pub loop-h-init : goal.loop-h-init
 loop-h-init c = hyps_begin c.hyps-h-items.ensures

@@ -1,4 +1,4 @@
-use Rattle.derivation.proofs.StepRule.{by_atom, by_part, by_count, by_given, by_few_items, by_refused, by_scopes, by_answer}
+use Rattle.derivation.proofs.StepRule.{by_atom, by_part, by_count, by_given, by_refused, by_scopes, by_answer}
 use Rattle.kernel.proofs.Handed.{handed}
 use Rattle.sexp.specs.NthItem.{has_items}
 use native.Mathlib.Omega.{arith}
@@ -26,10 +26,6 @@ returns-then-count-ids-clause-derived_as c = λ g. by_count g c.requires.known.0
 
 pub references-requires-clause-reads : goal.references-requires-clause-reads
 references-requires-clause-reads c = by_given c.requires.reads c.requires.known.0 c.nth.ensures c.in-List.is c.count.ensures c.requires.known.1 c.if-count-ids.false
-
-pub references-requires-clause-few_items : goal.references-requires-clause-few_items
-references-requires-clause-few_items c = by_few_items c.requires.reads c.requires.known.0 c.nth.ensures c.in-List.is c.count.ensures c.requires.known.1
-    c.if-count-ids.false
 
 pub returns-in_err-brought-clause-derived_as : goal.returns-in_err-brought-clause-derived_as
 returns-in_err-brought-clause-derived_as c = λ g. rw (handed c.from_residual.result c.from_residual.ensures)

@@ -1,11 +1,8 @@
-use Rattle.derivation.proofs.RuleFacts.{rule_recalls, general_small, general_begins, general_out, general_skip, general_in, general_done}
+use Rattle.derivation.proofs.RuleFacts.{general_small, general_begins, general_out, general_skip, general_in, general_done}
 use mathlib.Core.Path.{refl, ap}
 use mathlib.Core.Bool.{not}
 use Rattle.derivation.proofs.apply.Rule.binds_general.Goals as goal
 use Rattle.derivation.proofs.apply.Rule.binds_general.Goals.{else-cell-ne0-via-then-cell-ne0+else-not-has, else-cell-ne0-via-else-cell-ne0}
-
-pub general-requires : goal.general-requires
-general-requires c = rule_recalls c.requires.0
 
 pub insert_all-requires : goal.insert_all-requires
 insert_all-requires c = general_small c.general.ensures c.requires.0
