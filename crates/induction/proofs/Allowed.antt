@@ -33,7 +33,7 @@ use Rattle.state.specs.FactLaws.{FactRow, fact_row_lem, facts_tabled}
 use Rattle.questions.specs.declared.Question.{Question}
 use Rattle.questions.specs.declared.Question.TheVariants.{Earlier, CaseJudgment}
 use Rattle.questions.specs.Numbers.{number_of, detail_of}
-use Rattle.referring.specs.Recall.{fact_of, RecallsFact}
+use Rattle.referring.specs.Recall.{fact_of}
 use Rattle.referring.specs.Laws.Refers.{fact_found, fact_none, fact_asks}
 use Rattle.referring.specs.Substitutes.{Below}
 use Rattle.induction.specs.Inducing.{hyps_in, row_among, plain_at, Resting, case_fact}
@@ -64,10 +64,6 @@ module _ {facts lists : List ℕ} {n : Sizes} {plain used : List ℕ} {x w : ℕ
 
     pub rest_judgment : {j : ℕ} → j ≡ cell 6 facts h 0 → j < 64 * length plain
     rest_judgment e = omega (arith, e, judged, g.good.room, g.long)
-
-    -- what the readers of its entries ask
-    pub rest_entries : (footings : List ℕ) × RecallsFact facts footings lists h
-    rest_entries = (g.footings, record { S = g.S; n = n; trees = M; recorded = g.recorded; there = l })
 
     pub rest_general : {own : List ℕ} → own ≡ part lists (general_span facts h) → Below (64 * length used) own
     rest_general {own} e k p =

@@ -52,16 +52,6 @@ module _ {I W : List ℕ} {m : Mark} {map memo premises out₀ : List ℕ} {j : 
     first_full s = on_no _ (on_start g.0.good) (refused_stopped s)
 
     module _ {t : ℕ} (s : Stored I W J X m (substituted I W m map j) (asks_first I W m map j) t new) where
-      pub first_movable : {memo' : List ℕ} → memo' ≡ memo → Replaceables J X new map memo' premises out₀
-      first_movable b =
-          record {
-            good = s.grown.good;
-            within = λ v. omega (arith, g.0.within v, s.grown.more);
-            empty = b ∙ g.0.empty;
-            there = below_grown premises s.grown.more g.0.there;
-            long = g.0.long;
-          }
-
       on_first : On I W m first J X new
           (then (asks J X new map premises) (λ us U. ok (record { premises = us; judgment = tree J X new t }) U))
       unfolding judgment_first

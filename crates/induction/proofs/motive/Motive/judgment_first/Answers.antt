@@ -1,7 +1,7 @@
 use mathlib.Core.Path.{refl}
 use Rattle.std.proofs.lemmas.Result.{err_from_is_err_and}
 use Rattle.referring.specs.Laws.Substitutes.{memo_asked}
-use Rattle.induction.proofs.Moves.{first_full, first_movable, first_stopped, first_moved}
+use Rattle.induction.proofs.Moves.{first_full, first_stopped, first_moved}
 use Rattle.induction.proofs.motive.Motive.judgment_first.Goals as goal
 
 pub substitute-requires-clause-id_in_bounds : goal.substitute-requires-clause-id_in_bounds
@@ -11,9 +11,6 @@ pub returns-in_err-t-clause-moved_as : goal.returns-in_err-t-clause-moved_as
 returns-in_err-t-clause-moved_as c =
     let p = err_from_is_err_and c.from_residual.result c.from_residual.ensures.1 in
     rw (p.1, p.2) (first_full c.requires c.in_err-t.ensures.kept.says)
-
-pub substitute_all-requires : goal.substitute_all-requires
-substitute_all-requires c = first_movable c.requires c.in_ok-t.ensures.kept.says c.substitute.ensures.memo_unchanged
 
 pub returns-in_err-substitute_all-clause-moved_as : goal.returns-in_err-substitute_all-clause-moved_as
 returns-in_err-substitute_all-clause-moved_as c =

@@ -1,11 +1,8 @@
 use mathlib.Core.Path.{ap}
 use mathlib.Core.Bool.{not}
 use borrow.Author.Tests.{not-true, not-false}
-use Rattle.induction.proofs.Allowed.{rest_entries, allows_start, allowing_here, allowing_not, allowing_again, allowing_done}
+use Rattle.induction.proofs.Allowed.{allows_start, allowing_here, allowing_not, allowing_again, allowing_done}
 use Rattle.induction.proofs.resting.Allowed.hyps.Goals as goal
-
-pub hyps-h-items-requires : goal.hyps-h-items-requires
-hyps-h-items-requires c = rest_entries c.requires.0 _ c.requires.1
 
 pub loop-h-init : goal.loop-h-init
 loop-h-init c = allows_start c.hyps-h-items.ensures
