@@ -202,4 +202,14 @@ impl Question {
             _ => 0,
         }
     }
+
+    // It answered by no, behind so many complete forms.
+    pub fn behind(self, forms: usize) -> Refused
+        ensures { result ≡ record { question = self; form = forms } }
+    {
+        Refused {
+            question: self,
+            form: forms,
+        }
+    }
 }

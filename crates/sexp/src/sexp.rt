@@ -108,13 +108,6 @@ pub fn read_form(text: &[u8], from: usize, words: &mut [u32]) -> Result<Option<F
     }))
 }
 
-// The refusal of a text behind so many forms.
-fn refused(question: Question, form: usize) -> Refused
-    ensures { result ≡ record { question = question; form = form } }
-{
-    Refused { question, form }
-}
-
 // How many bracketed forms a text has, without a look at them and without cells; of a text that is refused, how many stand before.
 pub fn read_all(text: &[u8]) -> Result<usize, Refused>
     ensures { EndsAs (read text.now) 0 result }
@@ -129,18 +122,18 @@ pub fn read_all(text: &[u8]) -> Result<usize, Refused>
             if depth == 0 {
                 return Ok(forms);
             }
-            return Err(refused(Question::Brackets, forms));
+            return Err(Question::Brackets.behind(forms));
         }
         let b = text[at];
         if b == b'(' {
             if depth == rules::DEPTH {
-                return Err(refused(Question::Depth, forms));
+                return Err(Question::Depth.behind(forms));
             }
             depth += 1;
             at += 1;
         } else if b == b')' {
             if depth == 0 {
-                return Err(refused(Question::Brackets, forms));
+                return Err(Question::Brackets.behind(forms));
             }
             depth -= 1;
             at += 1;

@@ -19,14 +19,14 @@ returns-then-depth-eq0 c = let here : Turning c.args.text.now c.skip-at.result c
 
 pub returns-then-at-text : goal.returns-then-at-text
 returns-then-at-text c = let here : Turning c.args.text.now c.skip-at.result c.loop-at.depth c.loop-at.forms = turns.skipped c.loop-at.invariant _ c.skip-at.ensures in
-    rw c.refused.ensures (turns.unclosed here c.if-at-text.true c.if-depth-eq0.false)
+    rw c.behind.ensures (turns.unclosed here c.if-at-text.true c.if-depth-eq0.false)
 
 pub bounds-text-at : goal.bounds-text-at
 bounds-text-at c = c.if-at-text.false
 
 pub returns-then-depth-eq-DEPTH : goal.returns-then-depth-eq-DEPTH
 returns-then-depth-eq-DEPTH c = let here : Turning c.args.text.now c.skip-at.result c.loop-at.depth c.loop-at.forms = turns.skipped c.loop-at.invariant _ c.skip-at.ensures in
-    rw c.refused-then-depth-eq-DEPTH.ensures (turns.too_deep here c.if-at-text.false c.if-b-eq40.true c.if-depth-eq-DEPTH.true)
+    rw c.behind-then-depth-eq-DEPTH.ensures (turns.too_deep here c.if-at-text.false c.if-b-eq40.true c.if-depth-eq-DEPTH.true)
 
 pub overflow_add-depth : goal.overflow_add-depth
 overflow_add-depth c = let here : Turning c.args.text.now c.skip-at.result c.loop-at.depth c.loop-at.forms = turns.skipped c.loop-at.invariant _ c.skip-at.ensures in
@@ -44,7 +44,7 @@ loop-at-preserved-then-b-eq40 c = let here : Turning c.args.text.now c.skip-at.r
 
 pub returns-then-depth-eq0-2 : goal.returns-then-depth-eq0-2
 returns-then-depth-eq0-2 c = let here : Turning c.args.text.now c.skip-at.result c.loop-at.depth c.loop-at.forms = turns.skipped c.loop-at.invariant _ c.skip-at.ensures in
-    rw c.refused-then-depth-eq0-2.ensures (turns.stray here c.if-at-text.false c.if-b-eq41.true c.if-depth-eq0-2.true)
+    rw c.behind-then-depth-eq0-2.ensures (turns.stray here c.if-at-text.false c.if-b-eq41.true c.if-depth-eq0-2.true)
 
 pub overflow_sub-depth : goal.overflow_sub-depth
 overflow_sub-depth c = omega (arith, c.if-depth-eq0-2.false)
