@@ -19,7 +19,7 @@ use Rattle.state.specs.Rows.{cell, FactAt, premises_span}
 use Rattle.state.specs.RowTables.{tabled_long}
 use Rattle.state.specs.Entries.{part}
 use Rattle.state.specs.FactLaws.{FactRow, fact_row_lem, facts_tabled, lists_long}
-use Rattle.referring.specs.Recall.{fact_of, Recalls, RecallsFact, ReadableAll}
+use Rattle.referring.specs.Recall.{fact_of, Recalls, ReadableAll}
 use Rattle.referring.specs.Referral.{Gathered}
 
 module _ {facts lists : List ℕ} {n : Sizes} {I W : List ℕ} {m : Mark} (g : Recalls facts lists n I W m) {i : ℕ} (l : i < n.facts) where
@@ -36,10 +36,6 @@ module _ {facts lists : List ℕ} {n : Sizes} {I W : List ℕ} {m : Mark} (g : R
   pub judgment_ready : {j : ℕ} {seen set : List ℕ} → j ≡ cell 6 facts i 0 → length seen ≡ TERMWORDS → length set ≡ VARIABLEWORDS → Readable I W m j seen set
   judgment_ready e p q =
       record { good = g.good; there = omega (arith, row.judgment.below, made_length I W m); wide = omega arith; broad = omega arith }
-
-  -- what the readers of its entries ask
-  pub recalls_fact : (footings : List ℕ) × RecallsFact facts footings lists i
-  recalls_fact = (g.footings, record { S = g.S; n = n; trees = made I W m; recorded = g.recorded; there = l })
 
   module _ {own : List ℕ} (e : own ≡ part lists (premises_span facts i)) where
     are : own ≡ numbers (made I W m) (fact_of g.S i).premises

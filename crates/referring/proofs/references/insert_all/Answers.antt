@@ -1,8 +1,5 @@
-use Rattle.referring.proofs.Joins.{joining_start, joining_more, joining_end}
+use Rattle.referring.proofs.Joins.{joining_more, joining_end}
 use Rattle.referring.proofs.references.insert_all.Goals as goal
-
-pub loop-id-init : goal.loop-id-init
-loop-id-init c = joining_start _ _
 
 pub loop-id-preserved : goal.loop-id-preserved
 loop-id-preserved c = joining_more _ _ _ _ _ c.loop-id.invariant c.loop-id-test.true c.insert.auto.set c.insert.ensures

@@ -1,11 +1,7 @@
 use mathlib.Core.Path.{◌∙◌, sym}
 use borrow.Author.Tests.{eqb-true}
-use Rattle.referring.specs.Laws.ScopeFacts.{recalls_fact}
 use Rattle.referring.specs.Laws.ScopeFree.{plain_done, joined}
 use Rattle.referring.proofs.source.Facts.join_free.Goals as goal
-
-pub general-requires : goal.general-requires
-general-requires c = recalls_fact c.requires.recalls.0 c.requires.recalls.1
 
 pub returns-then-is_empty : goal.returns-then-is_empty
 returns-then-is_empty c = λ g. plain_done g c.requires.recalls.1 c.general.ensures (eqb-true _ 0 (sym c.is_empty.ensures ∙ c.if-is_empty.true)) (c.mention.ensures g)

@@ -1,5 +1,5 @@
 use mathlib.Core.Path.{◌∙◌}
-use Rattle.referring.specs.Laws.ScopeFacts.{fact_there, recalls_fact, judgment_ready, premises_ready, mention_done}
+use Rattle.referring.specs.Laws.ScopeFacts.{fact_there, judgment_ready, premises_ready, mention_done}
 use Rattle.referring.proofs.source.Facts.mention.Goals as goal
 
 pub judgment-requires : goal.judgment-requires
@@ -7,9 +7,6 @@ judgment-requires c = fact_there c.requires.recalls.0 c.requires.recalls.1
 
 pub visit-requires-clause-readable : goal.visit-requires-clause-readable
 visit-requires-clause-readable c = judgment_ready c.requires.recalls.0 c.requires.recalls.1 c.judgment.ensures c.requires.recalls.2 c.requires.recalls.3
-
-pub premises-requires : goal.premises-requires
-premises-requires c = recalls_fact c.requires.recalls.0 c.requires.recalls.1
 
 pub visit_all-requires-clause-readable_all : goal.visit_all-requires-clause-readable_all
 visit_all-requires-clause-readable_all c = premises_ready c.requires.recalls.0 c.requires.recalls.1 c.premises.ensures (c.visit.auto.seen ∙ c.requires.recalls.2)

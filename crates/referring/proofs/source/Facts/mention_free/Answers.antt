@@ -3,15 +3,11 @@ use lib.ListN.{replicate}
 use Rattle.rules.specs.Limits.{VARIABLEWORDS}
 use Rattle.terms.specs.Sets.{holds}
 use Rattle.terms.specs.Laws.Seen.{seen_none}
-use Rattle.referring.specs.Laws.ScopeFacts.{recalls_fact}
 use Rattle.referring.specs.Laws.ScopeFree.{general_fits, free_done}
 use Rattle.referring.proofs.source.Facts.mention_free.Goals as goal
 
 pub mention-requires-clause-seen : goal.mention-requires-clause-seen
 mention-requires-clause-seen c = seen_none _ _ _ _ _ refl
-
-pub general-requires : goal.general-requires
-general-requires c = recalls_fact c.requires.0 c.requires.1
 
 pub insert_all-requires : goal.insert_all-requires
 insert_all-requires c = general_fits c.requires.0 c.requires.1 c.general.ensures (replicate VARIABLEWORDS 0) refl

@@ -1,13 +1,9 @@
 use native.Mathlib.Omega.{arith}
-use Rattle.referring.specs.Laws.Refers.{refers_bare}
 use Rattle.referring.proofs.Referring.{reference_cell, reference_list, inner_given, reference_atom, reference_instance}
 use Rattle.referring.proofs.source.Source.reference.Goals as goal
 
 pub item_at-requires : goal.item_at-requires
 item_at-requires c = reference_cell c.requires.reads
-
-pub bare-requires : goal.bare-requires
-bare-requires c = (_, refers_bare c.requires.reads.refers c.requires.reads.holds)
 
 pub offset_bounds-cells-a : goal.offset_bounds-cells-a
 offset_bounds-cells-a c = omega (
