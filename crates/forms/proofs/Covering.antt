@@ -33,7 +33,7 @@ use Rattle.state.specs.RowCells.{no_fact, no_goal}
 use Rattle.state.specs.Numbered.{in_numbered, sound_in}
 use Rattle.state.specs.GoalLaws.{GoalRow, goals_long}
 use Rattle.state.specs.FactLaws.{FactRow, fact_row_lem, goal_row_of, lists_long}
-use Rattle.referring.specs.Recall.{fact_of, RecallsFact}
+use Rattle.referring.specs.Recall.{fact_of}
 use Rattle.forms.specs.Results.{goal_of, ListsHyps, Covers}
 use Rattle.referring.specs.Laws.Refers.{fact_asks}
 use Rattle.referring.specs.Laws.ScopeFree.{from_zeros}
@@ -135,9 +135,6 @@ module _ {rows facts lists : List ℕ} {k i : ℕ} (g : Covers rows facts lists 
 
   pub covers_goal : GoalAt rows k
   covers_goal = (goals_long g.held, omega (arith, g.goal, g.held.few))
-
-  pub covers_fact : (footings : List ℕ) × RecallsFact facts footings lists i
-  covers_fact = (g.footings, record { S = g.S; n = g.n; trees = g.trees; recorded = g.recorded; there = g.fact })
 
   -- the goal's entries
   module _ {s : Span} (e : s ≡ list_span rows k) where
