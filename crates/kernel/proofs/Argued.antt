@@ -1,13 +1,13 @@
 -- The arguments of a symbol in a rule, one at a time: where their reader stands, and what it answers. Assumes nothing.
 use mathlib.Core.Path.{◌≡◌, refl, sym, ap, ◌∙◌}
-use Prim.Native.Nat.{ℕ, ◌+◌, ◌*◌, ◌<◌, ◌≤◌}
+use Prim.Native.Nat.{ℕ, ◌+◌, ◌<◌, ◌≤◌}
 use mathlib.Core.List.{List}
 use native.Mathlib.Omega.{arith}
 use lib.ListN.{length, get_or, take, drop}
-use Rattle.rules.specs.Limits.{ARGUMENTS, PATTERNS}
+use Rattle.rules.specs.Limits.{PATTERNS}
 use Rattle.rules.specs.Sexp.{Sexp, Sexps, cons}
 use Rattle.rules.specs.Tree.{none}
-use Rattle.rules.specs.Theory.{Theory, inputs as inputs_of}
+use Rattle.rules.specs.Theory.{Theory, no_symbol, inputs as inputs_of}
 use Rattle.rules.specs.TheoryTables.{prefix, prefixes}
 use Rattle.rules.specs.Laws.Row.{append-nil}
 use Rattle.rules.specs.Declare.{Reading, pattern, patterns}
@@ -19,13 +19,19 @@ use Rattle.sexp.specs.WalkLaws.{Walk, walk_start, walk_over}
 use Rattle.sexp.specs.declared.items.Each.{Each}
 use Rattle.kernel.specs.Held.{SymbolsHeld}
 use Rattle.kernel.specs.Reading.{SameTables, ReadSoFar, Written, Stopped, PatternRead, Patterning, Placed, Arguing}
-use Rattle.kernel.specs.SignatureRows.{input_place, input_cell}
+use Rattle.kernel.specs.Readers.{KnownInput}
+use Rattle.kernel.specs.Entries.{known_input}
 use Rattle.kernel.specs.declared.patterns.RuleReader.{RuleReader}
 use Rattle.std.specs.Prelude.{Result, Ok, Err}
 use Rattle.questions.specs.declared.Question.{Question}
 use Rattle.questions.specs.Numbers.{number_of, detail_of}
 use Rattle.kernel.proofs.Trees.{symbolic, placed_inside, placed_next, arguments_stopped, arguments_read}
 use Rattle.kernel.proofs.Turns.{turn_holds, turn_some, turn_first, turn_rest}
+
+-- what the reader of the table of inputs says of argument k of symbol c, whatever theory the table holds
+abbrev pub Sorts : List ℕ → ℕ → ℕ → ℕ → Type 0
+Sorts inputs c k r = (T : Theory) (text symbols : List ℕ) (count : ℕ) → SymbolsHeld text symbols inputs count T.symbols → c < count → k < length (inputs_of T c) →
+    r ≡ get_or (inputs_of T c) k 0
 
 -- Where the reader stands ----------------------------------------------------------------------------------------------------------
 
@@ -66,20 +72,24 @@ module _ {text cells : List ℕ} {T : Theory} {c : ℕ} {R : Reading} {zs : Sexp
 
     -- the sort of the argument
     module _ {symbols inputs : List ℕ} {known : ℕ} (s : SymbolsHeld text symbols inputs known T.symbols) where
-      sort_place : ARGUMENTS * c + k < length inputs
-      sort_place = input_place s c k g.placed.known (placed_inside g.placed turn.is)
+      sort_known : KnownInput inputs c k
+      sort_known = known_input T s (omega (arith, g.placed.known, s.many)) inside
 
-      module _ (long : length P ≡ PATTERNS) where
+      module _ (sort : ℕ) (a : Sorts inputs c k sort) (long : length P ≡ PATTERNS) where
+        sort_is : sort ≡ get_or (get_or T.symbols c no_symbol).inputs k 0
+        unfolding inputs_of
+        sort_is = a T text symbols known s (omega (arith, g.placed.known, s.many)) inside
+
         low : w ≤ length M
         low = omega (arith, g.reads.room, g.long, long)
 
-        argued_stops : {M' : List ℕ} (x : Question) → Stopped M M' w (pattern T turn.x (get_or inputs (ARGUMENTS * c + k) 0) g.now) (number_of x) (detail_of x) →
+        argued_stops : {M' : List ℕ} (x : Question) → Stopped M M' w (pattern T turn.x sort g.now) (number_of x) (detail_of x) →
             Stopped P M' used (patterns T zs (inputs_of T c) R) (number_of x) (detail_of x)
         argued_stops {M'} x q =
             g.onward table v M' w (Err x)
-            (arguments_stopped T g.now turn g.placed (input_cell s c k g.placed.known (placed_inside g.placed turn.is)) w M low q)
+            (arguments_stopped T g.now turn g.placed sort_is w M low q)
 
-        argued_on : {table' M' : List ℕ} {n m : ℕ} → Written prefix text table' M M' w (pattern T turn.x (get_or inputs (ARGUMENTS * c + k) 0) g.now) n m →
+        argued_on : {table' M' : List ℕ} {n m : ℕ} → Written prefix text table' M M' w (pattern T turn.x sort g.now) n m →
             Argued text cells T c R zs P used table' M' (k + 1) next.at n m
         argued_on {M' = M'} {m = m} q =
             let high : m ≤ length M' = omega (arith, q.reads.room, q.long, g.long, long) in
@@ -91,7 +101,7 @@ module _ {text cells : List ℕ} {T : Theory} {c : ℕ} {R : Reading} {zs : Sexp
               reads = q.reads;
               long = q.long ∙ g.long;
               onward = λ t v' Q w' r b. g.onward t v' Q w' r
-                  (arguments_read T g.now turn g.placed (input_cell s c k g.placed.known (placed_inside g.placed turn.is)) w M low q high t v' Q w' r b);
+                  (arguments_read T g.now turn g.placed sort_is w M low q high t v' Q w' r b);
             }
 
 -- The loop -------------------------------------------------------------------------------------------------------------------------
@@ -119,8 +129,8 @@ module _ {text cells symbols inputs : List ℕ} {known c : ℕ} {table₀ : List
     given = i.goes (symbolic p.given.held.0) p.given.so_far p.given.zs p.given.held.1 p.given.reads p.given.holds p.placed
 
     module _ {item : List ℕ} {next : Each} (h : Here cells item at next) where
-      pub argument_place : ARGUMENTS * c + k < length inputs
-      argument_place = sort_place given h p.given.held.1
+      pub argument_known : KnownInput inputs c k
+      argument_known = sort_known given h p.given.held.1
 
       pub argument_some : 0 < length item
       argument_some = omega (arith, turn_some given.walk h)
@@ -139,23 +149,23 @@ module _ {text cells symbols inputs : List ℕ} {known c : ℕ} {table₀ : List
           }
 
       -- it refuses
-      pub arguments_stop : (M' : List ℕ) (x : Question) → ((T : Theory) (R : Reading) (y : Sexp) (ys : Sexps) → SymbolsHeld text symbols inputs known T.symbols →
-          ReadSoFar text table v w R → Holds text item (cons y ys) → Stopped M M' w (pattern T y (get_or inputs (ARGUMENTS * c + k) 0) R) (number_of x) (detail_of x)) →
+      pub arguments_stop : (sort : ℕ) → Sorts inputs c k sort → (M' : List ℕ) (x : Question) → ((T : Theory) (R : Reading) (y : Sexp) (ys : Sexps) → SymbolsHeld text symbols inputs known T.symbols →
+          ReadSoFar text table v w R → Holds text item (cons y ys) → Stopped M M' w (pattern T y sort R) (number_of x) (detail_of x)) →
           (T : Theory) (R : Reading) (zs : Sexps) → SymbolsHeld text symbols inputs known T.symbols → ReadSoFar text table₀ count used R → Holds text cells zs →
           Placed T.symbols c 0 zs → Stopped P M' used (patterns T zs (inputs_of T c) R) (number_of x) (detail_of x)
-      arguments_stop M' x q T R zs s y b a =
+      arguments_stop sort r M' x q T R zs s y b a =
           let o = i.goes T R zs s y b a in
-          argued_stops o h s p.given.long x (q T o.now (turn o h).x (turn o h).ys s o.reads (holds_first (turn o h) (turn_holds o.walk h)))
+          argued_stops o h s sort r p.given.long x (q T o.now (turn o h).x (turn o h).ys s o.reads (holds_first (turn o h) (turn_holds o.walk h)))
 
       -- it reads
-      pub arguments_on : {table' : List ℕ} {n : ℕ} {M' : List ℕ} {m : ℕ} → ((T : Theory) (R : Reading) (y : Sexp) (ys : Sexps) → SymbolsHeld text symbols inputs known T.symbols →
-          ReadSoFar text table v w R → Holds text item (cons y ys) → Written prefix text table' M M' w (pattern T y (get_or inputs (ARGUMENTS * c + k) 0) R) n m) →
+      pub arguments_on : (sort : ℕ) → Sorts inputs c k sort → {table' : List ℕ} {n : ℕ} {M' : List ℕ} {m : ℕ} → ((T : Theory) (R : Reading) (y : Sexp) (ys : Sexps) → SymbolsHeld text symbols inputs known T.symbols →
+          ReadSoFar text table v w R → Holds text item (cons y ys) → Written prefix text table' M M' w (pattern T y sort R) n m) →
           Arguments text cells symbols inputs known c table₀ count P used table' M' (k + 1) next.at n m
-      arguments_on q =
+      arguments_on sort r q =
           record {
             goes = λ T R zs s y b a.
                 let o = i.goes T R zs s y b a in
-                argued_on o h s p.given.long (q T o.now (turn o h).x (turn o h).ys s o.reads (holds_first (turn o h) (turn_holds o.walk h)));
+                argued_on o h s sort r p.given.long (q T o.now (turn o h).x (turn o h).ys s o.reads (holds_first (turn o h) (turn_holds o.walk h)));
           }
 
 -- of the reader at the beginning and now

@@ -1,10 +1,10 @@
 -- Lists that begin with a symbol: what the readers of heads answer. Assumes nothing.
 use mathlib.Core.Path.{◌≡◌, refl, sym, ap, ◌∙◌}
-use Prim.Native.Nat.{ℕ, ◌+◌, ◌-◌, ◌*◌, ◌<◌, ◌≤◌}
+use Prim.Native.Nat.{ℕ, ◌+◌, ◌-◌, ◌<◌, ◌≤◌}
 use Rattle.std.specs.Prelude.{Some as some, None as nothing, Option, Result, Ok, Err}
 use mathlib.Core.List.{List}
 use native.Mathlib.Omega.{arith}
-use lib.ListN.{length, get_or, take, drop, set, length-set}
+use lib.ListN.{length, take, drop, set, length-set}
 use Rattle.rules.specs.Limits.{PATTERNS}
 use Rattle.rules.specs.Find.{first}
 use Rattle.rules.specs.Laws.Find.{first_some}
@@ -28,7 +28,7 @@ use Rattle.questions.specs.declared.Question.TheVariants.{Room}
 use Rattle.sexp.specs.FoundLaws.{found_at, found_missing}
 use Rattle.kernel.specs.SignatureRows.{symbols_rows}
 use Rattle.sexp.specs.FirstItem.{AtomFirst, ListFirst, count_first, none_left}
-use Rattle.kernel.proofs.Words.{words_more}
+use Rattle.kernel.proofs.Words.{words_more, Reads}
 use Rattle.sexp.specs.AtomText.{atom_span}
 
 -- a refusal with nothing written
@@ -107,7 +107,7 @@ module _ (T : Theory) (R : Reading) {text cells : List ℕ} {zs : Sexps} (P : Li
         stopped R 11 0 (begins ∙ predicated_unknown R T p (letters (drop p text)) f.others
         (named_so ∙ found_missing (first (called Predicate (take (end - p) (drop p text))) T.symbols 0) r (a T.symbols (symbols_rows h)) b))
 
-    module _ (c : ℕ) (b : r ≡ some c) (many : ℕ) (m : many ≡ count zs) where
+    module _ (c : ℕ) (b : r ≡ some c) (arity : ℕ) (g : Reads (λ T c. length (inputs T c)) symbols c arity) (many : ℕ) (m : many ≡ count zs) where
       known_so : predicate_named T (letters (drop p text)) ≡ some c
       known_so = named_so ∙ found_at (first (called Predicate (take (end - p) (drop p text))) T.symbols 0) r c (a T.symbols (symbols_rows h)) b
 
@@ -116,15 +116,14 @@ module _ (T : Theory) (R : Reading) {text cells : List ℕ} {zs : Sexps} (P : Li
           let g = first_some (called Predicate (take (end - p) (drop p text))) T.symbols 0 c no_symbol (sym named_so ∙ known_so) in
           omega (arith, g.is, g.inside)
 
-      arity_is : get_or symbols (4 * c + 1) 0 ≡ length (inputs T c)
-      unfolding inputs
-      arity_is = ((symbols_rows h).row c declared).arity
+      arity_is : arity ≡ length (inputs T c)
+      arity_is = g T text ins known h (omega (arith, declared, h.many))
 
-      pub judgment_count : (get_or symbols (4 * c + 1) 0 + 1 ≡ many → ⊥) → Stopped P P used (predicated T zs R) 12 0
+      pub judgment_count : (arity + 1 ≡ many → ⊥) → Stopped P P used (predicated T zs R) 12 0
       judgment_count n =
           stopped R 12 0 (begins ∙ predicated_count R T p (letters (drop p text)) f.others c known_so (λ z. n (omega (arith, arity_is, z, m, count_first f))))
 
-      module _ (n : get_or symbols (4 * c + 1) 0 + 1 ≡ many) (Q : List ℕ) (w : R.words ≡ used) where
+      module _ (n : arity + 1 ≡ many) (Q : List ℕ) (w : R.words ≡ used) where
         many_so : length (inputs T c) ≡ count f.others
         many_so = omega (arith, arity_is, n, m, count_first f)
 

@@ -1,14 +1,15 @@
 -- Words of patterns behind those that are there: one more, and what the readers of atoms and heads answer. Assumes nothing.
 use mathlib.Core.Path.{◌≡◌, refl, sym, ap, ◌∙◌, subst}
-use Prim.Native.Nat.{ℕ, suc, ◌+◌, ◌-◌, ◌*◌, ◌<◌, ◌≤◌}
+use Prim.Native.Nat.{ℕ, suc, ◌+◌, ◌-◌, ◌<◌, ◌≤◌}
 use mathlib.Core.Bool.{true, false}
 use Rattle.std.specs.Prelude.{Some as some, None as nothing, Option, Result}
 use mathlib.Core.List.{List, [], ◌∷◌, ◌++◌}
 use native.Mathlib.Omega.{arith}
 use native.Mathlib.Numerals.{add-one}
-use lib.ListN.{length, get_or, take, drop, set, length-set}
+use lib.ListN.{length, take, drop, set, length-set}
 use lib.Seq.{take-suc-set}
-use Rattle.rules.specs.Limits.{SYMBOLS, PATTERNS}
+use Rattle.rules.specs.Limits.{SYMBOLS, ARGUMENTS, PATTERNS}
+use Rattle.rules.specs.Laws.Theory.{all_at}
 use Rattle.rules.specs.Find.{first}
 use Rattle.rules.specs.Laws.Find.{first_some}
 use Rattle.rules.specs.Lex.{letters}
@@ -32,6 +33,8 @@ use Rattle.questions.specs.declared.Row.TheVariants.{PatternWords}
 use Rattle.questions.specs.declared.Question.TheVariants.{Room}
 use Rattle.sexp.specs.FoundLaws.{found_at, found_missing}
 use Rattle.kernel.specs.SignatureRows.{symbols_rows, symbols_few}
+use Rattle.kernel.specs.Readers.{KnownSymbol}
+use Rattle.kernel.specs.Entries.{known_symbol}
 
 -- A word more --------------------------------------------------------------------------------------------------------------------
 
@@ -96,6 +99,10 @@ module _ (text : List ℕ) (start end sort : ℕ) (e : end ≡ start + length (l
 
 -- The answers of `constructor` ---------------------------------------------------------------------------------------------------
 
+-- what a reader of the symbols' table says of symbol c, whatever theory the table holds
+abbrev pub Reads : (Theory → ℕ → ℕ) → List ℕ → ℕ → ℕ → Type 0
+Reads says symbols c r = (T : Theory) (text inputs : List ℕ) (count : ℕ) → SymbolsHeld text symbols inputs count T.symbols → c < count → r ≡ says T c
+
 module _ (text : List ℕ) (start end sort arity : ℕ) (e : end ≡ start + length (letters (drop start text))) (l : start < length text) {symbols ins : List ℕ} {count : ℕ} (T : Theory) (R : Reading)
     (h : SymbolsHeld text symbols ins count T.symbols) (r : Option ℕ)
     (a : (ss : List Symbol) → SymbolRows text symbols count ss → r ≡ (first (called Constructor (take (end - start) (drop start text))) ss 0)) where
@@ -121,61 +128,69 @@ module _ (text : List ℕ) (start end sort arity : ℕ) (e : end ≡ start + len
         let f = first_some (called Constructor (take (end - start) (drop start text))) T.symbols 0 c no_symbol (sym named_so ∙ known_so) in
         omega (arith, f.is, f.inside)
 
-    output_is : get_or symbols (4 * c) 0 ≡ output T c
-    unfolding output
-    output_is = ((symbols_rows h).row c declared).output
+    -- the output that was read
+    module _ (had : ℕ) (o : Reads (λ T. output T) symbols c had) where
+      output_is : had ≡ output T c
+      output_is = o T text ins count h (omega (arith, declared, h.many))
 
-    arity_is : get_or symbols (4 * c + 1) 0 ≡ length (inputs T c)
-    unfolding inputs
-    arity_is = ((symbols_rows h).row c declared).arity
+      pub head_wrong_sort : {P : List ℕ} {used : ℕ} → (had ≡ sort → ⊥) → Stopped P P used (head T sort arity (letters (drop start text)) R) 12 0
+      head_wrong_sort f =
+          record { now = R; is = head_sort R T sort arity (letters (drop start text)) c known_so (λ z. f (output_is ∙ z)); words = refl; long = refl }
 
-    pub head_wrong_sort : {P : List ℕ} {used : ℕ} → (get_or symbols (4 * c) 0 ≡ sort → ⊥) → Stopped P P used (head T sort arity (letters (drop start text)) R) 12 0
-    head_wrong_sort f =
-        record { now = R; is = head_sort R T sort arity (letters (drop start text)) c known_so (λ z. f (output_is ∙ z)); words = refl; long = refl }
+      -- and how many arguments there are
+      module _ (f : had ≡ sort) (many : ℕ) (n : Reads (λ T c. length (inputs T c)) symbols c many) where
+        sort_so : output T c ≡ sort
+        sort_so = sym output_is ∙ f
 
-    module _ (f : get_or symbols (4 * c) 0 ≡ sort) where
-      sort_so : output T c ≡ sort
-      sort_so = sym output_is ∙ f
+        arity_is : many ≡ length (inputs T c)
+        arity_is = n T text ins count h (omega (arith, declared, h.many))
 
-      pub head_wrong_count : {P : List ℕ} {used : ℕ} → (get_or symbols (4 * c + 1) 0 ≡ arity → ⊥) → Stopped P P used (head T sort arity (letters (drop start text)) R) 12 0
-      head_wrong_count g =
-          record { now = R; is = head_count R T sort arity (letters (drop start text)) c known_so sort_so (λ z. g (arity_is ∙ z)); words = refl; long = refl }
+        pub head_wrong_count : {P : List ℕ} {used : ℕ} → (many ≡ arity → ⊥) → Stopped P P used (head T sort arity (letters (drop start text)) R) 12 0
+        head_wrong_count g =
+            record { now = R; is = head_count R T sort arity (letters (drop start text)) c known_so sort_so (λ z. g (arity_is ∙ z)); words = refl; long = refl }
 
-      module _ (g : get_or symbols (4 * c + 1) 0 ≡ arity) {used : ℕ} (P Q : List ℕ) (w : R.words ≡ used) where
-        head_so : head T sort arity (letters (drop start text)) R ≡ then (word R) (λ u W. ok c W)
-        head_so = head_asks R T sort arity (letters (drop start text)) c known_so sort_so (sym arity_is ∙ g)
+        module _ (g : many ≡ arity) {used : ℕ} (P Q : List ℕ) (w : R.words ≡ used) where
+          head_so : head T sort arity (letters (drop start text)) R ≡ then (word R) (λ u W. ok c W)
+          head_so = head_asks R T sort arity (letters (drop start text)) c known_so sort_so (sym arity_is ∙ g)
 
-        pub head_written : {next : ℕ} → length P ≡ PATTERNS → (used < PATTERNS) × (Q ≡ set P used c) × (next ≡ used + 1) →
-            Head P Q used T R arity (head T sort arity (letters (drop start text)) R) c next
-        unfolding then
-        head_written m k =
-            record {
-              is = head_so ∙ ap (λ z. then z (λ u W. ok c W)) (word_more R (omega (arith, w, k.0)));
-              known = declared;
-              many = sym arity_is ∙ g;
-              nexts = k.2;
-              words = words_more P Q used c (omega (arith, m, k.0)) k.1 k.2;
-              room = omega (arith, k.0, k.2);
-              long = ap length k.1 ∙ length-set P used c;
-            }
+          pub head_written : {next : ℕ} → length P ≡ PATTERNS → (used < PATTERNS) × (Q ≡ set P used c) × (next ≡ used + 1) →
+              Head P Q used T R arity (head T sort arity (letters (drop start text)) R) c next
+          unfolding then
+          head_written m k =
+              record {
+                is = head_so ∙ ap (λ z. then z (λ u W. ok c W)) (word_more R (omega (arith, w, k.0)));
+                known = declared;
+                many = sym arity_is ∙ g;
+                nexts = k.2;
+                words = words_more P Q used c (omega (arith, m, k.0)) k.1 k.2;
+                room = omega (arith, k.0, k.2);
+                long = ap length k.1 ∙ length-set P used c;
+              }
 
-        pub head_full : {e : Row} {next : ℕ} → (PATTERNS ≤ used) × (Q ≡ P) × (next ≡ used) × (e ≡ PatternWords) →
-            Stopped P Q used (head T sort arity (letters (drop start text)) R) (number_of (Room e)) (detail_of (Room e))
-        unfolding then
-        head_full k =
-            record {
-              now = R;
-              is = head_so ∙ ap (λ z. then z (λ u W. ok c W)) (word_full R (omega (arith, w, k.0))) ∙ (λ i. refuse 60 (detail_of (Room (sym k.3 i))) R);
-              words = ap (take used) k.1;
-              long = ap length k.1;
-            }
+          pub head_full : {e : Row} {next : ℕ} → (PATTERNS ≤ used) × (Q ≡ P) × (next ≡ used) × (e ≡ PatternWords) →
+              Stopped P Q used (head T sort arity (letters (drop start text)) R) (number_of (Room e)) (detail_of (Room e))
+          unfolding then
+          head_full k =
+              record {
+                now = R;
+                is = head_so ∙ ap (λ z. then z (λ u W. ok c W)) (word_full R (omega (arith, w, k.0))) ∙ (λ i. refuse 60 (detail_of (Room (sym k.3 i))) R);
+                words = ap (take used) k.1;
+                long = ap length k.1;
+              }
 
--- a symbol's number is small, and its row inside
-pub head_row : {text symbols ins : List ℕ} {count : ℕ} {ss : List Symbol} (name : List ℕ) (b : Kind) (r : Option ℕ) (c : ℕ) → SymbolsHeld text symbols ins count ss →
-    ((ss : List Symbol) → SymbolRows text symbols count ss → r ≡ (first (called b name) ss 0)) → r ≡ some c → (4 * c + 3 < length symbols) × (c < SYMBOLS)
-head_row {ss = ss} name b r c h a e =
+-- a symbol that was found is there, and its number is small
+pub head_known : {text symbols ins : List ℕ} {count : ℕ} {ss : List Symbol} (name : List ℕ) (b : Kind) (r : Option ℕ) (c : ℕ) → SymbolsHeld text symbols ins count ss →
+    ((ss : List Symbol) → SymbolRows text symbols count ss → r ≡ (first (called b name) ss 0)) → r ≡ some c → KnownSymbol symbols c × (c < SYMBOLS)
+head_known {ss = ss} name b r c h a e =
     let f = first_some (called b name) ss 0 c no_symbol (found_at (first (called b name) ss 0) r c (a ss (symbols_rows h)) e) in
-    (omega (arith, f.is, f.inside, h.many, symbols_few h, h.long), omega (arith, f.is, f.inside, h.many, symbols_few h))
+    (known_symbol h (omega (arith, f.is, f.inside, h.many)), omega (arith, f.is, f.inside, h.many, symbols_few h))
+
+-- a symbol takes few arguments
+pub arity_few : {symbols : List ℕ} {c many : ℕ} → KnownSymbol symbols c → Reads (λ T c. length (inputs T c)) symbols c many → many ≤ ARGUMENTS
+unfolding inputs
+arity_few {c = c} k n =
+    let T : Theory = record { sorts = []; symbols = k.held.0; rules = [] } in
+    omega (arith, n T k.text k.inputs k.count k.held.1 k.known, all_at k.held.0 c no_symbol k.held.1.few (omega (arith, k.known, k.held.1.many)))
 
 -- The answers of `atomic` --------------------------------------------------------------------------------------------------------
 

@@ -9,6 +9,7 @@ ghost use Rattle.kernel.specs.Reading.{SameTables, SameVars, Knows, ReadTo, Part
 
 use crate::names::Kind;
 use crate::patterns::RuleReader;
+use crate::readers;
 use questions::Question;
 use sexp::items::Item;
 use sexp::{items, lex};
@@ -57,7 +58,7 @@ impl RuleReader<'_, '_> {
         let Some(p) = known.named(Kind::Predicate, name) else {
             return Err(Question::Declared);
         };
-        let arity = known.rows[4 * p + 1] as usize;
+        let arity = readers::arity(known.rows, p);
         let many = items::count(cells);
         if arity + 1 != many {
             return Err(Question::Signature);
@@ -96,7 +97,7 @@ impl RuleReader<'_, '_> {
             PartRead prefixes self.old self.new (patterns_of T zs (inputs_of T c) R) result }
     {
         for (k, item) in items::all(cells).enumerate() {
-            let sort = self.known.inputs[rules::ARGUMENTS * c + k] as usize;
+            let sort = readers::input(self.known.inputs, c, k);
             self.term(item, sort)?;
         }
         Ok(())

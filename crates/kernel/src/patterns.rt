@@ -14,6 +14,7 @@ ghost use Rattle.sexp.specs.NameRows.{NameRows, SomeNames};
 
 use crate::atoms::{marked, put_name};
 use crate::names::{Kind, SymbolTable};
+use crate::readers;
 use cells::Span;
 use questions::{Question, Row};
 use sexp::lex;
@@ -121,12 +122,11 @@ impl RuleReader<'_, '_> {
         let Some(c) = known.named(Kind::Constructor, name) else {
             return Err(Question::Declared);
         };
-        let at = 4 * c;
-        let output = known.rows[at] as usize;
+        let output = readers::output(known.rows, c);
         if output != sort {
             return Err(Question::Signature);
         }
-        let many = known.rows[at + 1] as usize;
+        let many = readers::arity(known.rows, c);
         if many != arity {
             return Err(Question::Signature);
         }

@@ -1,6 +1,6 @@
 // Reading the tables of sorts and symbols: a symbol's signature by its number, a sort's number by its name, and the constructors of a sort
 // one after the other, or how many.
-ghost use Rattle.std.specs.Prelude.{◌≡◌, ℕ, ◌<◌, List, length, get_or};
+ghost use Rattle.std.specs.Prelude.{◌≡◌, ℕ, ◌^◌, ◌<◌, List, length, get_or};
 ghost use Rattle.rules.specs.Theory.{Theory, inputs as inputs_of, output as output_of, constructors as constructors_of, sort_named};
 ghost use Rattle.kernel.specs.Held.{SortsHeld, SomeSorts, SymbolsHeld};
 ghost use Rattle.kernel.specs.Readers.{KnownSymbol, KnownInput, CountedSymbols};
@@ -30,7 +30,8 @@ pub fn output(symbols: &[u32], c: usize) -> usize
 // The sort of argument k of symbol c.
 pub fn input(inputs: &[u32], c: usize, k: usize) -> usize
     requires { KnownInput inputs.now c k }
-    ensures { (T : Theory) (text symbols : List ℕ) (count : ℕ) → SymbolsHeld text symbols inputs.now count T.symbols → c < count →
+    ensures small { result < 2 ^ 32 }
+    ensures sort { (T : Theory) (text symbols : List ℕ) (count : ℕ) → SymbolsHeld text symbols inputs.now count T.symbols → c < count →
         k < length (inputs_of T c) → result ≡ get_or (inputs_of T c) k 0 }
 {
     inputs[rules::ARGUMENTS * c + k] as usize

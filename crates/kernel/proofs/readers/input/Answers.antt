@@ -15,5 +15,5 @@ offset_bounds-inputs-c c = omega (arith, argument_place c.requires, c.well_forme
 pub bounds-inputs-c : goal.bounds-inputs-c
 bounds-inputs-c c = argument_place c.requires
 
-pub returns : goal.returns
-returns c = λ T text syms count h l m. argument_cell T h _ l _ m
+pub returns-clause-sort : goal.returns-clause-sort
+returns-clause-sort c = λ T text syms count h l m. argument_cell T h _ l _ m

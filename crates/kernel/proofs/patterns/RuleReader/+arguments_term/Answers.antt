@@ -5,10 +5,9 @@ use lib.ListN.{length, take, drop}
 use Rattle.rules.specs.Laws.PatternSteps.{worded}
 use Rattle.sexp.specs.WalkLaws.{walk_start, walk_list, part_shorter}
 use Rattle.sexp.specs.FirstItem.{rest_shorter, atom_first, some_list, cons_first}
-use Rattle.std.proofs.Common.{rules}
 use Rattle.kernel.proofs.Handed.{handed}
 use Rattle.sexp.specs.Each.{here, over, item_long}
-use Rattle.kernel.proofs.Argued.{arguments_start, arguments_over, argument_place, argument_some, argument_asks, arguments_stop, arguments_on}
+use Rattle.kernel.proofs.Argued.{arguments_start, arguments_over, argument_known, argument_some, argument_asks, arguments_stop, arguments_on}
 use Rattle.kernel.proofs.Premised.{same_on}
 use Rattle.kernel.proofs.Trees.{symbolic, list_read, opened_reads, opened_placed, arguing_inner}
 use Rattle.kernel.proofs.patterns.RuleReader.+arguments_term.Goals as goal
@@ -17,29 +16,11 @@ pub arguments-loop-k-init : goal.arguments-loop-k-init
 arguments-loop-k-init t c = rw (c.into_iter-k-iterator.ensures.into_iter_gives, c.enumerate-k-items.ensures.source, c.enumerate-k-items.ensures.count, c.all.ensures.0, c.all.ensures.1)
     record { cells = refl; going = record { same = record { known = refl; vars = refl; patterns = refl }; arguments = arguments_start _ _ _ _ _ _ _ _ _ _ } }
 
-pub arguments-overflow_mul-sort : goal.arguments-overflow_mul-sort
-arguments-overflow_mul-sort t c =
+pub arguments-input-sort-requires : goal.arguments-input-sort-requires
+arguments-input-sort-requires t c =
     let steps = c.in-Some.ensures.steps in
     let h = here c.loop-k.invariant.cells steps.0 in
-    omega (arith, argument_place c.loop-k.invariant.going.arguments c.requires h, steps.1, c.well_formed)
-
-pub arguments-overflow_add-sort : goal.arguments-overflow_add-sort
-arguments-overflow_add-sort t c =
-    let steps = c.in-Some.ensures.steps in
-    let h = here c.loop-k.invariant.cells steps.0 in
-    omega (arith, argument_place c.loop-k.invariant.going.arguments c.requires h, steps.1, c.well_formed)
-
-pub arguments-offset_bounds-self-c : goal.arguments-offset_bounds-self-c
-arguments-offset_bounds-self-c t c =
-    let steps = c.in-Some.ensures.steps in
-    let h = here c.loop-k.invariant.cells steps.0 in
-    omega (arith, argument_place c.loop-k.invariant.going.arguments c.requires h, steps.1, c.well_formed)
-
-pub arguments-bounds-self-c : goal.arguments-bounds-self-c
-arguments-bounds-self-c t c =
-    let steps = c.in-Some.ensures.steps in
-    let h = here c.loop-k.invariant.cells steps.0 in
-    rw (steps.1, c.loop-k.invariant.going.same.known) (argument_place c.loop-k.invariant.going.arguments c.requires h)
+    rw (steps.1, c.loop-k.invariant.going.same.known) (argument_known c.loop-k.invariant.going.arguments c.requires h)
 
 pub arguments-term-requires : goal.arguments-term-requires
 arguments-term-requires t c =
@@ -47,7 +28,7 @@ arguments-term-requires t c =
       omega (arith, item_long c.args.cells.now _ c.loop-k.k-iterator.iter.at h.is, c.decreases),
       (
         rw c.loop-k.invariant.going.same.known (argument_asks c.loop-k.invariant.going.arguments c.requires h),
-        (argument_some c.loop-k.invariant.going.arguments c.requires h, search rules),
+        (argument_some c.loop-k.invariant.going.arguments c.requires h, c.input-sort.ensures.small),
       ),
     )
 
@@ -57,8 +38,8 @@ arguments-returns-in_err-term-clause-read t c =
     let h = here c.loop-k.invariant.cells steps.0 in
     let known = c.loop-k.invariant.going.same.known in
     λ T R zs s y b p. rw (handed c.from_residual.result c.from_residual.ensures)
-    (arguments_stop c.loop-k.invariant.going.arguments c.requires h _ _
-    (λ T R y ys s r b. rw (steps.1, known) at (c.in_err-term.ensures.read T R y ys (rw known s) (rw known r) (rw known b))) T R zs s y b p)
+    (arguments_stop c.loop-k.invariant.going.arguments c.requires h _ (rw (steps.1, known) at c.input-sort.ensures.sort) _ _
+    (λ T R y ys s r b. c.in_err-term.ensures.read T R y ys (rw known s) (rw known r) (rw known b)) T R zs s y b p)
 
 pub arguments-loop-k-preserved : goal.arguments-loop-k-preserved
 arguments-loop-k-preserved t c =
@@ -69,8 +50,8 @@ arguments-loop-k-preserved t c =
       cells = h.same;
       going = record {
         same = same_on c.loop-k.invariant.going.same c.in_ok-term.ensures.same_tables;
-        arguments = rw steps.2 (arguments_on c.loop-k.invariant.going.arguments c.requires h
-            (λ T R y ys s r b. rw (steps.1, known) at (c.in_ok-term.ensures.read T R y ys (rw known s) (rw known r) (rw known b))));
+        arguments = rw steps.2 (arguments_on c.loop-k.invariant.going.arguments c.requires h _ (rw (steps.1, known) at c.input-sort.ensures.sort)
+            (λ T R y ys s r b. rw known at (c.in_ok-term.ensures.read T R y ys (rw known s) (rw known r) (rw known b))));
       };
     }
 

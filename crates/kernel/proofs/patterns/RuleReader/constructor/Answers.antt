@@ -1,7 +1,7 @@
 use native.Mathlib.Omega.{arith}
 use Rattle.kernel.specs.SignatureRows.{symbols_rows}
 use Rattle.kernel.proofs.Handed.{handed}
-use Rattle.kernel.proofs.Words.{head_missing, head_wrong_sort, head_wrong_count, head_written, head_full, head_row}
+use Rattle.kernel.proofs.Words.{head_missing, head_wrong_sort, head_wrong_count, head_written, head_full, head_known}
 use Rattle.sexp.specs.AtomText.{atom_span}
 use Rattle.kernel.proofs.patterns.RuleReader.constructor.Goals as goal
 
@@ -16,43 +16,31 @@ returns-in_default-clause-head c = λ T R h w.
     head_missing c.args.self.now.known.text.now c.args.start _ c.args.sort c.args.arity c.atom_end-end.ensures c.requires.inside T R h _
     c.named.ensures c.in_default.is
 
-pub overflow_mul-at : goal.overflow_mul-at
-overflow_mul-at c = omega (arith, (head_row _ _ _ _ c.requires.held.1 c.named.ensures c.in-Some.is).0, c.well_formed)
-
-pub offset_bounds-known-at : goal.offset_bounds-known-at
-offset_bounds-known-at c = omega (arith, (head_row _ _ _ _ c.requires.held.1 c.named.ensures c.in-Some.is).0, c.well_formed)
-
-pub bounds-known-at : goal.bounds-known-at
-bounds-known-at c = omega (arith, (head_row _ _ _ _ c.requires.held.1 c.named.ensures c.in-Some.is).0)
+pub output-output-requires : goal.output-output-requires
+output-output-requires c = (head_known _ _ _ _ c.requires.held.1 c.named.ensures c.in-Some.is).0
 
 pub returns-then-output-sort-clause-head : goal.returns-then-output-sort-clause-head
 returns-then-output-sort-clause-head c = λ T R h w.
     head_wrong_sort c.args.self.now.known.text.now c.args.start _ c.args.sort c.args.arity c.atom_end-end.ensures c.requires.inside T R h _
-    c.named.ensures _ c.in-Some.is c.if-output-sort.true
+    c.named.ensures _ c.in-Some.is _ c.output-output.ensures c.if-output-sort.true
 
-pub overflow_add-many : goal.overflow_add-many
-overflow_add-many c = omega (arith, (head_row _ _ _ _ c.requires.held.1 c.named.ensures c.in-Some.is).0, c.well_formed)
-
-pub offset_bounds-known-at-2 : goal.offset_bounds-known-at-2
-offset_bounds-known-at-2 c = omega (arith, (head_row _ _ _ _ c.requires.held.1 c.named.ensures c.in-Some.is).0, c.well_formed)
-
-pub bounds-known-at-2 : goal.bounds-known-at-2
-bounds-known-at-2 c = omega (arith, (head_row _ _ _ _ c.requires.held.1 c.named.ensures c.in-Some.is).0)
+pub arity-many-requires : goal.arity-many-requires
+arity-many-requires c = (head_known _ _ _ _ c.requires.held.1 c.named.ensures c.in-Some.is).0
 
 pub returns-then-many-arity-clause-head : goal.returns-then-many-arity-clause-head
 returns-then-many-arity-clause-head c = λ T R h w.
     head_wrong_count c.args.self.now.known.text.now c.args.start _ c.args.sort c.args.arity c.atom_end-end.ensures c.requires.inside T R h _
-    c.named.ensures _ c.in-Some.is c.if-output-sort.false c.if-many-arity.true
+    c.named.ensures _ c.in-Some.is _ c.output-output.ensures c.if-output-sort.false _ c.arity-many.ensures c.if-many-arity.true
 
 pub word-requires : goal.word-requires
-word-requires c = record { long = c.requires.long; small = omega (arith, (head_row _ _ _ _ c.requires.held.1 c.named.ensures c.in-Some.is).1) }
+word-requires c = record { long = c.requires.long; small = omega (arith, (head_known _ _ _ _ c.requires.held.1 c.named.ensures c.in-Some.is).1) }
 
 pub returns-in_err-word-clause-head : goal.returns-in_err-word-clause-head
 returns-in_err-word-clause-head c = λ T R h w. rw (handed c.from_residual.result c.from_residual.ensures)
     (head_full c.args.self.now.known.text.now c.args.start _ c.args.sort c.args.arity c.atom_end-end.ensures c.requires.inside T R h _
-    c.named.ensures _ c.in-Some.is c.if-output-sort.false c.if-many-arity.false _ _ w c.in_err-word.ensures.put)
+    c.named.ensures _ c.in-Some.is _ c.output-output.ensures c.if-output-sort.false _ c.arity-many.ensures c.if-many-arity.false _ _ w c.in_err-word.ensures.put)
 
 pub returns-clause-head : goal.returns-clause-head
 returns-clause-head c = λ T R h w.
     head_written c.args.self.now.known.text.now c.args.start _ c.args.sort c.args.arity c.atom_end-end.ensures c.requires.inside T R h _
-    c.named.ensures _ c.in-Some.is c.if-output-sort.false c.if-many-arity.false _ _ w c.requires.long c.in_ok-word.ensures.put
+    c.named.ensures _ c.in-Some.is _ c.output-output.ensures c.if-output-sort.false _ c.arity-many.ensures c.if-many-arity.false _ _ w c.requires.long c.in_ok-word.ensures.put

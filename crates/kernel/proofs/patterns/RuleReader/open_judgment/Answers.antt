@@ -3,7 +3,7 @@ use native.Mathlib.Omega.{arith}
 use borrow.Author.Tests.{eqb-true, eqb-false}
 use Rattle.kernel.specs.SignatureRows.{symbols_rows}
 use Rattle.kernel.proofs.Handed.{handed}
-use Rattle.kernel.proofs.Words.{head_row}
+use Rattle.kernel.proofs.Words.{head_known, arity_few}
 use Rattle.sexp.specs.AtomText.{atom_span}
 use Rattle.kernel.proofs.Opens.{judgment_empty, judgment_headless, judgment_unknown, judgment_count, judgment_opened, judgment_full}
 use Rattle.sexp.specs.FirstItem.{atom_first, list_first}
@@ -30,32 +30,26 @@ returns-in_default-named-clause-opened c = λ T R zs h w k.
     judgment_unknown T R _ _ (atom_first k (eqb-false _ 0 (sym c.if-is_empty.ensures)) c.item_at.ensures c.in-Atom.is) _ c.atom_end-end.ensures h _
     c.named.ensures c.in_default-named.is
 
-pub overflow_mul-arity : goal.overflow_mul-arity
-overflow_mul-arity c = omega (arith, (head_row _ _ _ _ c.requires.held.1 c.named.ensures c.in-Some.is).0, c.well_formed)
+pub arity-arity-requires : goal.arity-arity-requires
+arity-arity-requires c = (head_known _ _ _ _ c.requires.held.1 c.named.ensures c.in-Some.is).0
 
 pub overflow_add-arity : goal.overflow_add-arity
-overflow_add-arity c = omega (arith, (head_row _ _ _ _ c.requires.held.1 c.named.ensures c.in-Some.is).0, c.well_formed)
-
-pub offset_bounds-known-p : goal.offset_bounds-known-p
-offset_bounds-known-p c = omega (arith, (head_row _ _ _ _ c.requires.held.1 c.named.ensures c.in-Some.is).0, c.well_formed)
-
-pub bounds-known-p : goal.bounds-known-p
-bounds-known-p c = omega (arith, (head_row _ _ _ _ c.requires.held.1 c.named.ensures c.in-Some.is).0)
+overflow_add-arity c = omega (arith, arity_few (head_known _ _ _ _ c.requires.held.1 c.named.ensures c.in-Some.is).0 c.arity-arity.ensures)
 
 pub returns-then-arity-many-clause-opened : goal.returns-then-arity-many-clause-opened
 returns-then-arity-many-clause-opened c = λ T R zs h w k.
     judgment_count T R _ _ (atom_first k (eqb-false _ 0 (sym c.if-is_empty.ensures)) c.item_at.ensures c.in-Atom.is) _ c.atom_end-end.ensures h _
-    c.named.ensures _ c.in-Some.is _ (c.count-many.ensures zs k.cells) c.if-arity-many.true
+    c.named.ensures _ c.in-Some.is _ c.arity-arity.ensures _ (c.count-many.ensures zs k.cells) c.if-arity-many.true
 
 pub word-requires : goal.word-requires
-word-requires c = record { long = c.requires.long; small = omega (arith, (head_row _ _ _ _ c.requires.held.1 c.named.ensures c.in-Some.is).1) }
+word-requires c = record { long = c.requires.long; small = omega (arith, (head_known _ _ _ _ c.requires.held.1 c.named.ensures c.in-Some.is).1) }
 
 pub returns-in_err-word-clause-opened : goal.returns-in_err-word-clause-opened
 returns-in_err-word-clause-opened c = λ T R zs h w k. rw (handed c.from_residual.result c.from_residual.ensures)
     (judgment_full T R _ _ (atom_first k (eqb-false _ 0 (sym c.if-is_empty.ensures)) c.item_at.ensures c.in-Atom.is) _ c.atom_end-end.ensures h _
-    c.named.ensures _ c.in-Some.is _ (c.count-many.ensures zs k.cells) c.if-arity-many.false _ w c.in_err-word.ensures.put)
+    c.named.ensures _ c.in-Some.is _ c.arity-arity.ensures _ (c.count-many.ensures zs k.cells) c.if-arity-many.false _ w c.in_err-word.ensures.put)
 
 pub returns-clause-opened : goal.returns-clause-opened
 returns-clause-opened c = λ T R zs h w k.
     judgment_opened T R _ _ (atom_first k (eqb-false _ 0 (sym c.if-is_empty.ensures)) c.item_at.ensures c.in-Atom.is) _ c.atom_end-end.ensures h _
-    c.named.ensures _ c.in-Some.is _ (c.count-many.ensures zs k.cells) c.if-arity-many.false _ w c.requires.long c.in_ok-word.ensures.put
+    c.named.ensures _ c.in-Some.is _ c.arity-arity.ensures _ (c.count-many.ensures zs k.cells) c.if-arity-many.false _ w c.requires.long c.in_ok-word.ensures.put
