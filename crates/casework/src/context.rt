@@ -20,7 +20,7 @@ ghost use Rattle.referring.specs.Sources.{RecallsIn};
 ghost use Rattle.casework.specs.Context.{There, Comparing, allowed_as, plainly, Adds, ContextAs, UnderAs, one, all_of, under, ContextIn, MarkedAs, OneMarked, UnboundAs, RestsIn, rests_by, RenamedIn, PremisesAs};
 
 use cells::clear;
-use kernel::rule_readers::{Rules, premises as premise_count, words};
+use kernel::rule_readers::Rules;
 use questions::{Question, Row};
 use referring::scope::visit_cells;
 use referring::source::Facts;
@@ -271,9 +271,9 @@ pub fn rule_premises<'a>(
         symbols,
         words: rules.patterns,
     };
-    let mut place = words(rules.rows, renamed.rule).from;
+    let mut place = rules.words(renamed.rule).from;
     let mut more = grounds;
-    for _ in 0..premise_count(rules.rows, renamed.rule) {
+    for _ in 0..rules.premises(renamed.rule) {
         let premise = patterns.build(store, renamed.bound, place)?;
         let t = substitute(store, renamed.theta, memo, premise.term)?;
         insert(&mut more.plain, t);

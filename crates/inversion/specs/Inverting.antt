@@ -35,11 +35,11 @@ ScratchKept x y = (y.map.now ≡ x.map.now) × (y.memo.now ≡ x.memo.now) × (y
 
 -- the variables of a rule
 abbrev pub RuleVarsIn : RuleVars → Type 0
-RuleVarsIn u = RuleVarsGiven u.rows.now u.rule u.count
+RuleVarsIn u = RuleVarsGiven u.rules.vars.now u.rule u.count
 
 -- the case in front of the cells, of that rule
 abbrev pub CaseVarsIn : Inverting → List ℕ → RuleVars → Type 0
-CaseVarsIn v cells u = let x = v.source.reader in CaseVarsGiven x.goals.now x.text.now x.vars.now u.rows.now x.n.vars cells u.rule u.count
+CaseVarsIn v cells u = let x = v.source.reader in CaseVarsGiven x.goals.now x.text.now x.vars.now u.rules.vars.now x.n.vars cells u.rule u.count
 
 abbrev pub KeptAs : Store → Store → List ℕ → List ℕ → Result (Unit {0}) Row → Type 0
 KeptAs s t list into r = KeptBy s.index.now s.words.now t.index.now t.words.now s.mark t.mark list into r

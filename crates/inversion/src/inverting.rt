@@ -13,10 +13,10 @@ pub struct Inverting<'a> {
     pub context: &'a [u32],
 }
 
-// The variables of a rule, in their table, and how many they are.
+// The variables of a rule by its number, and how many they are.
 #[derive(Clone, Copy)]
 pub struct RuleVars<'a> {
-    pub rows: &'a [u32],
+    pub rules: Rules<'a>,
     pub rule: usize,
     pub count: usize,
 }

@@ -14,7 +14,6 @@ ghost use Rattle.inversion.specs.Inverting.{RuleVarsIn, CaseVarsIn};
 use crate::inverting::{Inverting, RuleVars, Variables};
 use casework::cases::read_case;
 use cells::write;
-use kernel::rule_readers::variable_sort;
 use questions::{Question, Row};
 use referring::references::insert_all;
 use rules::VARIABLES;
@@ -45,7 +44,7 @@ impl RuleVars<'_> {
             return false;
         }
         for (k, v) in list.iter().enumerate() {
-            if var_sort(vars, *v as usize) != variable_sort(self.rows, self.rule, k) {
+            if var_sort(vars, *v as usize) != self.rules.variable_sort(self.rule, k) {
                 return false;
             }
         }
@@ -65,7 +64,7 @@ impl RuleVars<'_> {
             if v >= VARIABLES {
                 return Err(Row::Variables);
             }
-            names.sorts[v] = variable_sort(self.rows, self.rule, k) as u32;
+            names.sorts[v] = self.rules.variable_sort(self.rule, k) as u32;
             list[k] = v as u32;
         }
         names.count = count + self.count;

@@ -13,7 +13,6 @@ use crate::inverting::{Inverting, Renaming, RuleVars, Variables};
 use casework::cases::find_case;
 use casework::context::Renamed;
 use cells::Span;
-use kernel::rule_readers::{rule_name, variables};
 use questions::Question;
 use rules::{PAIRS, RULEVARS, SYMBOLS, TERMWORDS, VARIABLES};
 use terms::store::{Store, Terms};
@@ -55,9 +54,9 @@ impl Inverting<'_> {
         let mut bound = [0u32; RULEVARS];
         let mut theta = [0u32; VARIABLES];
         let need = RuleVars {
-            rows: self.rules.vars,
+            rules: self.rules,
             rule: r,
-            count: variables(self.rules.rows, r),
+            count: self.rules.variables(r),
         };
         need.make(names, &mut list)?;
         let own = Renaming {
@@ -123,7 +122,7 @@ impl Inverting<'_> {
         ensures scratch_kept { ScratchKept scratch.old scratch.new }
         ensures ids_unchanged { ids.new ≡ ids.old }
     {
-        let Span { from, end } = rule_name(self.rules.rows, r);
+        let Span { from, end } = self.rules.rule_name(r);
         let reader = &self.source.reader;
         let name = &reader.theory[from..end];
         let Some(case) = find_case(reader.text, cases, name) else {
@@ -131,9 +130,9 @@ impl Inverting<'_> {
         };
         let mut list = [0u32; RULEVARS];
         let need = RuleVars {
-            rows: self.rules.vars,
+            rules: self.rules,
             rule: r,
-            count: variables(self.rules.rows, r),
+            count: self.rules.variables(r),
         };
         let i = self.case_vars(case, &need, &mut names.taken, &mut list)?;
         let own = Renaming {
