@@ -2,6 +2,7 @@
 use Rattle.kernel.specs.declared.names.SymbolTable.{SymbolTable}
 use Rattle.state.specs.declared.board.Given.{Given}
 use Rattle.state.specs.declared.board.Board.{Board}
+use Rattle.state.specs.declared.vars.VarTable.{VarTable}
 use Rattle.state.specs.Held.{Names, names}
 use Rattle.reading.specs.declared.reader.Reader.{Reader}
 
@@ -25,3 +26,7 @@ reader_of g b =
 -- its symbols
 abbrev pub symbols_of : Reader → SymbolTable
 symbols_of r = record { text = r.theory; rows = r.symbols; inputs = r.inputs; count = r.n.symbols }
+
+-- its variables
+abbrev pub vars_of : Reader → VarTable
+vars_of r = record { goals = r.goals; text = r.text; rows = r.vars; count = r.n.vars }

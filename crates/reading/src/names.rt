@@ -10,7 +10,6 @@ ghost use Rattle.reading.specs.Items.{FirstItem, index_in, variable_in};
 use crate::reader::Reader;
 use sexp::items;
 use sexp::names::index_of;
-use state::vars::var_named;
 
 // The index that the first item spells.
 pub fn index(text: &[u8], cells: &[u32]) -> Option<usize>
@@ -29,6 +28,6 @@ impl Reader<'_> {
             Holds self.now.text.now cells.now (cons x ys) → result ≡ variable_in vs x }
     {
         let name = items::head(self.text, cells)?;
-        var_named(self.goals, self.text, self.vars, self.n.vars, name)
+        self.var_table().named(name)
     }
 }

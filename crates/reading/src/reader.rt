@@ -1,10 +1,11 @@
 // What names stand for: the texts and tables from which the items of a form are read.
 ghost use Rattle.std.specs.Prelude.{◌≡◌};
-ghost use Rattle.reading.specs.Reader.{reader_of, symbols_of};
+ghost use Rattle.reading.specs.Reader.{reader_of, symbols_of, vars_of};
 
 use kernel::names::SymbolTable;
 use state::board::{Board, Given};
 use state::sizes::Sizes;
+use state::vars::VarTable;
 
 // The texts in which names stand, the tables of symbols, variables and abbreviations, and how much of each is used.
 #[derive(Clone, Copy)]
@@ -45,6 +46,18 @@ impl<'a> Reader<'a> {
             rows: self.symbols,
             inputs: self.inputs,
             count: self.n.symbols,
+        }
+    }
+
+    // The variables, as names are looked up in them.
+    pub fn var_table(&self) -> VarTable<'a>
+        ensures { result ≡ vars_of self.now }
+    {
+        VarTable {
+            goals: self.goals,
+            text: self.text,
+            rows: self.vars,
+            count: self.n.vars,
         }
     }
 }

@@ -23,7 +23,7 @@ use rules::{NODE, SYMBOLS};
 use sexp::items::Item;
 use sexp::{items, lex};
 use state::defs::def_named;
-use state::vars::{var_named, var_sort};
+use state::vars::var_sort;
 use terms::store::{Store, Terms};
 
 // A term's number, and its sort.
@@ -104,7 +104,7 @@ impl Reader<'_> {
         ensures typed_as { (g : ReadsNames self.now.theory.now self.now.goals.now self.now.text.now self.now.symbols.now self.now.vars.now self.now.n store.old.index.now store.old.words.now store.old.mark) →
             TypedAs store.old store.new g.S (named g.S name.now (made_of store.old)) result }
     {
-        if let Some(v) = var_named(self.goals, self.text, self.vars, self.n.vars, name) {
+        if let Some(v) = self.var_table().named(name) {
             let term = store.keep_var(v)?;
             let sort = var_sort(self.vars, v);
             return Ok(Typed { term, sort });

@@ -7,6 +7,7 @@ ghost use Rattle.rules.specs.State.{Def};
 ghost use Rattle.state.specs.Held.{DefsHeld};
 ghost use Rattle.state.specs.Rows.{Fits4, SomeDefs, DefFound};
 
+use cells::Span;
 use sexp::names::named;
 
 // The term that these bytes abbreviate.
@@ -14,19 +15,17 @@ pub fn def_named(text: &[u8], defs: &[u32], count: usize, name: &[u8]) -> Option
     requires { SomeDefs text.now defs.now count }
     ensures { (M : Made) (ds : List Def) → DefsHeld text.now defs.now count M ds → DefFound M ds name.now result }
 {
-    let Some(i) = named(text, defs, 3, 0, count, name) else {
-        return None;
-    };
+    let i = named(text, defs, 3, 0, count, name)?;
     Some(defs[3 * i + 2] as usize)
 }
 
-// The row of abbreviation d.
-pub fn put_def(defs: &mut [u32], d: usize, start: usize, end: usize, term: usize)
-    requires { (length defs.old ≡ 3 * DEFS) × (d < DEFS) × Fits4 start end term 0 }
-    ensures { defs.new ≡ sets defs.old (3 * d) (start ∷ end ∷ term ∷ []) }
+// The row of abbreviation d; its name stands in the text from which it is read.
+pub fn put_def(defs: &mut [u32], d: usize, name: Span, term: usize)
+    requires { (length defs.old ≡ 3 * DEFS) × (d < DEFS) × Fits4 name.from name.end term 0 }
+    ensures { defs.new ≡ sets defs.old (3 * d) (name.from ∷ name.end ∷ term ∷ []) }
 {
     let at = 3 * d;
-    defs[at] = start as u32;
-    defs[at + 1] = end as u32;
+    defs[at] = name.from as u32;
+    defs[at + 1] = name.end as u32;
     defs[at + 2] = term as u32;
 }

@@ -55,21 +55,13 @@ pub fn take_goal(goals: &mut [u32], k: usize)
 }
 
 // The row of goal k, without a result.
-pub fn put_goal(
-    goals: &mut [u32],
-    k: usize,
-    start: usize,
-    end: usize,
-    judgment: usize,
-    from: usize,
-    hyps: usize,
-)
-    requires { GoalAt goals.old k × Fits4 start end judgment from × (hyps < 2 ^ 32) }
-    ensures { goals.new ≡ sets goals.old (6 * k) (start ∷ end ∷ judgment ∷ from ∷ hyps ∷ 0 ∷ []) }
+pub fn put_goal(goals: &mut [u32], k: usize, name: Span, judgment: usize, from: usize, hyps: usize)
+    requires { GoalAt goals.old k × Fits4 name.from name.end judgment from × (hyps < 2 ^ 32) }
+    ensures { goals.new ≡ sets goals.old (6 * k) (name.from ∷ name.end ∷ judgment ∷ from ∷ hyps ∷ 0 ∷ []) }
 {
     let at = 6 * k;
-    goals[at] = start as u32;
-    goals[at + 1] = end as u32;
+    goals[at] = name.from as u32;
+    goals[at + 1] = name.end as u32;
     goals[at + 2] = judgment as u32;
     goals[at + 3] = from as u32;
     goals[at + 4] = hyps as u32;

@@ -7,6 +7,7 @@ ghost use Rattle.rules.specs.State.{Var, var_named, no_var};
 ghost use Rattle.state.specs.Held.{VarsHeld};
 ghost use Rattle.state.specs.Rows.{cell, Fits4, SomeVars, VarAt, text_cell};
 
+use cells::Span;
 use questions::Text;
 use sexp::names::same;
 
@@ -20,37 +21,45 @@ fn text_cell(text: Option<Text>) -> u32
     }
 }
 
-// Whether variable i has these bytes for a name.
-fn is_var(goals: &[u8], text: &[u8], vars: &[u32], count: usize, i: usize, name: &[u8]) -> bool
-    requires { SomeVars goals.now text.now vars.now count × (i < count) }
-    ensures { (vs : List Var) → VarsHeld goals.now text.now vars.now count vs → result ≡ same (get_or vs i no_var).name.bytes name.now }
-{
-    let at = 4 * i;
-    let start = vars[at + 2] as usize;
-    let end = vars[at + 3] as usize;
-    if vars[at + 1] == text_cell(Some(Text::Goals)) {
-        return same(&goals[start..end], name);
-    }
-    same(&text[start..end], name)
+// The variables that there are, and the texts in which their names stand.
+#[derive(Clone, Copy)]
+pub struct VarTable<'a> {
+    pub goals: &'a [u8],
+    pub text: &'a [u8],
+    pub rows: &'a [u32],
+    pub count: usize,
 }
 
-// The variable with these bytes for a name.
-pub fn var_named(
-    goals: &[u8],
-    text: &[u8],
-    vars: &[u32],
-    count: usize,
-    name: &[u8],
-) -> Option<usize>
-    requires { SomeVars goals.now text.now vars.now count }
-    ensures { (vs : List Var) → VarsHeld goals.now text.now vars.now count vs → result ≡ var_named vs name.now }
-{
-    for i in 0..count {
-        if is_var(goals, text, vars, count, i, name) {
-            return Some(i);
+impl VarTable<'_> {
+    // Whether variable i has these bytes for a name.
+    fn is_var(&self, i: usize, name: &[u8]) -> bool
+        requires { SomeVars self.now.goals.now self.now.text.now self.now.rows.now self.now.count × (i < self.now.count) }
+        ensures { (vs : List Var) → VarsHeld self.now.goals.now self.now.text.now self.now.rows.now self.now.count vs →
+            result ≡ same (get_or vs i no_var).name.bytes name.now }
+    {
+        let at = 4 * i;
+        let start = self.rows[at + 2] as usize;
+        let end = self.rows[at + 3] as usize;
+        if self.rows[at + 1] == text_cell(Some(Text::Goals)) {
+            return same(&self.goals[start..end], name);
         }
+        same(&self.text[start..end], name)
     }
-    None
+
+    // The variable with these bytes for a name.
+    pub fn named(&self, name: &[u8]) -> Option<usize>
+        requires { SomeVars self.now.goals.now self.now.text.now self.now.rows.now self.now.count }
+        ensures { (vs : List Var) → VarsHeld self.now.goals.now self.now.text.now self.now.rows.now self.now.count vs →
+            result ≡ var_named vs name.now }
+    {
+        // a `for`: what would have to be proved of `find`'s closure is more than this loop's invariant
+        for i in 0..self.count {
+            if self.is_var(i, name) {
+                return Some(i);
+            }
+        }
+        None
+    }
 }
 
 // The sort of variable v; 0 where there is none, the definition's own number for that: sorts are numbered from 1 on.
@@ -62,20 +71,13 @@ pub fn var_sort(vars: &[u32], v: usize) -> usize
 }
 
 // The row of variable v.
-pub fn put_var(
-    vars: &mut [u32],
-    v: usize,
-    sort: usize,
-    text: Option<Text>,
-    start: usize,
-    end: usize,
-)
-    requires { VarAt vars.old v × Fits4 sort start end 0 }
-    ensures { vars.new ≡ sets vars.old (4 * v) (sort ∷ text_cell text ∷ start ∷ end ∷ []) }
+pub fn put_var(vars: &mut [u32], v: usize, sort: usize, text: Option<Text>, name: Span)
+    requires { VarAt vars.old v × Fits4 sort name.from name.end 0 }
+    ensures { vars.new ≡ sets vars.old (4 * v) (sort ∷ text_cell text ∷ name.from ∷ name.end ∷ []) }
 {
     let at = 4 * v;
     vars[at] = sort as u32;
     vars[at + 1] = text_cell(text);
-    vars[at + 2] = start as u32;
-    vars[at + 3] = end as u32;
+    vars[at + 2] = name.from as u32;
+    vars[at + 3] = name.end as u32;
 }

@@ -11,4 +11,4 @@ pub bounds-defs-at-3 : goal.bounds-defs-at-3
 bounds-defs-at-3 c = simp length-set (omega arith)
 
 pub returns : goal.returns
-returns c = stores3 c.args.defs.now (3 * c.args.d) c.args.start c.args.end c.args.term
+returns c = stores3 c.args.defs.now (3 * c.args.d) c.args.name.from c.args.name.end c.args.term

@@ -20,4 +20,4 @@ pub bounds-goals-at-6 : goal.bounds-goals-at-6
 bounds-goals-at-6 c = simp length-set (omega arith)
 
 pub returns : goal.returns
-returns c = stores6 c.args.goals.now (6 * c.args.k) c.args.start c.args.end c.args.judgment c.args.from c.args.hyps 0
+returns c = stores6 c.args.goals.now (6 * c.args.k) c.args.name.from c.args.name.end c.args.judgment c.args.from c.args.hyps 0

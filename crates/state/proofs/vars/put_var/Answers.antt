@@ -14,4 +14,4 @@ pub bounds-vars-at-4 : goal.bounds-vars-at-4
 bounds-vars-at-4 c = simp length-set (omega arith)
 
 pub returns : goal.returns
-returns c = rw c.text_cell.ensures (stores4 c.args.vars.now (4 * c.args.v) c.args.sort _ c.args.start c.args.end)
+returns c = rw c.text_cell.ensures (stores4 c.args.vars.now (4 * c.args.v) c.args.sort _ c.args.name.from c.args.name.end)
