@@ -13,7 +13,7 @@ ghost use Rattle.reading.specs.Given.{ReadsItem};
 ghost use Rattle.derivation.specs.ItemsOf.{ReadsRuleItem, ReadsRuleItems, HeldIn, ItemAs, ItemsAs};
 
 use kernel::atoms::marked;
-use kernel::rule_readers::{Rules, rule_var_named, variable_sort, variables};
+use kernel::rule_readers::Rules;
 use questions::Question;
 use reading::reader::Reader;
 use rules::RULEVARS;
@@ -63,16 +63,11 @@ impl Said {
         let OneRule { rules, number } = *rule;
         let end = lex::atom_end(reader.text, start);
         let name = &reader.text[start..end];
-        let Some(i) = rule_var_named(
-            reader.theory,
-            rules.vars,
-            number,
-            variables(rules.rows, number),
-            name,
-        ) else {
+        let count = rules.variables(number);
+        let Some(i) = rules.rule_var_named(reader.theory, number, count, name) else {
             return Err(Question::Binding);
         };
-        let term = reader.term_of(store, cells, variable_sort(rules.vars, number, i))?;
+        let term = reader.term_of(store, cells, rules.variable_sort(number, i))?;
         if self.bound[i] != 0 {
             return Err(Question::Binding);
         }

@@ -19,7 +19,7 @@ ghost use Rattle.derivation.specs.Stepping.{StatedIn, ConcludableIn, ReadsConclu
 
 use crate::items::{OneRule, Said, read_items};
 use cells::clear;
-use kernel::rule_readers::{Rules, premises, rule_named, words as rule_words};
+use kernel::rule_readers::Rules;
 use questions::Question;
 use reading::reader::Reader;
 use referring::scope::{visit_all, visit_cells};
@@ -145,7 +145,7 @@ fn conclude(
     visit_cells(&terms, &said.bound, &mut seen, &mut used);
     let OneRule { rules, number } = *rule;
     let place = rules.conclusion(reader.symbols, number);
-    let first = rule_words(rules.rows, number).from;
+    let first = rules.words(number).from;
     let patterns = Patterns {
         symbols: reader.symbols,
         words: rules.patterns,
@@ -179,10 +179,10 @@ pub fn step(
     let reader = &source.reader;
     let end = lex::atom_end(reader.text, start);
     let name = &reader.text[start..end];
-    let Some(number) = rule_named(reader.theory, rules.rows, reader.n.rules, name) else {
+    let Some(number) = rules.rule_named(reader.theory, reader.n.rules, name) else {
         return Err(Question::Defined);
     };
-    let few = premises(rules.rows, number);
+    let few = rules.premises(number);
     let rule = OneRule {
         rules: *rules,
         number,
