@@ -6,31 +6,31 @@ ghost use Rattle.std.specs.Prelude.{◌≡◌};
 ghost use Rattle.questions.specs.Numbers.{row_number, text_number, number_of, detail_of};
 ghost use Rattle.questions.specs.declared.Question.TheVariants.{Room};
 
-// The texts of a check.
+// The texts of a check, each with its number, which programs in other languages read; theirs is 0 for none.
 #[derive(Clone, Copy, Debug, PartialEq, Eq)]
 pub enum Text {
-    Theory,
-    Goals,
-    Proof,
+    Theory = 1,
+    Goals = 2,
+    Proof = 3,
 }
 
-// What has no room: the rows of question 60.
+// What has no room: the rows of question 60, each with its number.
 #[derive(Clone, Copy, Debug, PartialEq, Eq)]
 pub enum Row {
-    Sorts,
-    Symbols,
-    Arguments,
-    Rules,
-    RuleVariables,
-    PatternWords,
-    Variables,
-    Terms,
-    TermWords,
-    Abbreviations,
-    Goals,
-    Facts,
-    Entries,
-    Pairs,
+    Sorts = 1,
+    Symbols = 2,
+    Arguments = 3,
+    Rules = 4,
+    RuleVariables = 5,
+    PatternWords = 6,
+    Variables = 7,
+    Terms = 8,
+    TermWords = 9,
+    Abbreviations = 10,
+    Goals = 11,
+    Facts = 12,
+    Entries = 13,
+    Pairs = 14,
 }
 
 // Those of the call and of the texts as such, of the theory, of goals, of the proof and its forms, of results, and of the room for what is stored.
@@ -100,39 +100,20 @@ pub struct Refused {
 }
 
 impl Text {
-    // Its number, which programs in other languages read; theirs is 0 for none.
+    // Its number.
     pub fn number(self) -> usize
         ensures { result ≡ text_number self }
     {
-        match self {
-            Text::Theory => 1,
-            Text::Goals => 2,
-            Text::Proof => 3,
-        }
+        self as usize
     }
 }
 
 impl Row {
-    // Its number among the rows.
+    // Its number.
     pub fn number(self) -> usize
         ensures { result ≡ row_number self }
     {
-        match self {
-            Row::Sorts => 1,
-            Row::Symbols => 2,
-            Row::Arguments => 3,
-            Row::Rules => 4,
-            Row::RuleVariables => 5,
-            Row::PatternWords => 6,
-            Row::Variables => 7,
-            Row::Terms => 8,
-            Row::TermWords => 9,
-            Row::Abbreviations => 10,
-            Row::Goals => 11,
-            Row::Facts => 12,
-            Row::Entries => 13,
-            Row::Pairs => 14,
-        }
+        self as usize
     }
 }
 
@@ -145,7 +126,7 @@ impl From<Row> for Question {
 }
 
 impl Question {
-    // Its number.
+    // Its number; some questions carry values, so that the language has no place for it beside their names.
     pub fn number(self) -> usize
         ensures { result ≡ number_of self }
     {
@@ -191,7 +172,7 @@ impl Question {
         }
     }
 
-    // What is told beside it: a variable, a count, the number of a row; 0 for the others.
+    // What is told beside it: a variable, a count, the number of a row; 0 for the others, as the definition and programs in other languages have it.
     pub fn detail(self) -> usize
         ensures { result ≡ detail_of self }
     {
