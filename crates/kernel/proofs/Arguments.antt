@@ -25,21 +25,21 @@ use Rattle.sexp.specs.WalkLaws.{Walk, walk_start, walk_over, ListIs, AtomIs}
 use Rattle.sexp.specs.Each.{Here}
 use Rattle.sexp.specs.declared.items.Each.{Each}
 use Rattle.sexp.specs.declared.items.Item.{Item}
-use Rattle.sexp.specs.NameRows.{NameRows}
 use Rattle.kernel.specs.Held.{SortsHeld, SomeSorts, ArgumentsRead}
 use Rattle.questions.specs.declared.Question.{Question}
 use Rattle.questions.specs.declared.Question.TheVariants.{Declared, Room}
 use Rattle.questions.specs.declared.Row.TheVariants.{Arguments}
 use Rattle.questions.specs.Numbers.{number_of, detail_of}
 use Rattle.sexp.specs.Never.{never}
-use Rattle.kernel.specs.SignatureRows.{sorts_rows, sorts_few}
+use Rattle.kernel.specs.SignatureRows.{sorts_few}
 use Rattle.sexp.specs.FirstItem.{SomeItem, ItemFirst, some_first, first_count}
+use Rattle.kernel.proofs.Spellings.{sorted}
 use Rattle.kernel.proofs.Turns.{turn_holds, turn_some, turn_first, turn_rest}
 
 -- what `sort` ensures
 abbrev pub SortTold : List ℕ → List ℕ → ℕ → Item → Result ℕ Question → Type 0
 SortTold text sorts known item r =
-    (x : Sexp) (at : ℕ) → item ≡ item_of at x → Spelt text x → (ns : List Name) → NameRows text sorts 2 0 known ns → r ≡ ok_or (sort_of ns x) Declared
+    (x : Sexp) (at : ℕ) → item ≡ item_of at x → Spelt text x → (ns : List Name) → SortsHeld text sorts known ns → r ≡ ok_or (sort_of ns x) Declared
 
 -- what its answer says
 sort_there : (o : Option ℕ) {r : Result ℕ Question} {s : ℕ} → r ≡ ok_or o Declared → r ≡ Ok s → o ≡ some s
@@ -71,18 +71,14 @@ module _ {text sorts : List ℕ} {known : ℕ} {item : Item} {r : Result ℕ Que
   pub sort_small : (s : ℕ) → r ≡ Ok s → SomeSorts text sorts known → (x : Sexp) (at : ℕ) → item ≡ item_of at x → Spelt text x → s ≤ SORTS
   unfolding sort_of
   sort_small s a h x at e k =
-      omega (arith, sort_inside h.0 (proper x) s (sort_there (sort_of h.0 x) (told x at e k h.0 (sorts_rows h.1)) a), h.1.many, sorts_few h.1)
+      omega (arith, sort_inside h.0 (proper x) s (sort_there (sort_of h.0 x) (told x at e k h.0 h.1) a), h.1.many, sorts_few h.1)
 
   module _ (T : Theory) (h : SortsHeld text sorts known T.sorts) (x : Sexp) (at : ℕ) (e : item ≡ item_of at x) (k : Spelt text x) where
     pub sort_known : (s : ℕ) → r ≡ Ok s → sort_of T.sorts x ≡ some s
-    sort_known s a = sort_there (sort_of T.sorts x) (told x at e k T.sorts (sorts_rows h)) a
+    sort_known s a = sort_there (sort_of T.sorts x) (told x at e k T.sorts h) a
 
     pub sort_unknown : {q : Question} → r ≡ Err q → Sortless T.sorts x q
-    sort_unknown a = sort_nowhere T.sorts x (told x at e k T.sorts (sorts_rows h)) a
-
--- some theory with these sorts
-abbrev only : List Name → Theory
-only ns = record { sorts = ns; symbols = []; rules = [] }
+    sort_unknown a = sort_nowhere T.sorts x (told x at e k T.sorts h) a
 
 -- the sort that the first item names
 module _ {text table cells : List ℕ} {known next : ℕ} {item : Item} {r : Result ℕ Question} (told : SortTold text table known item r) {xs : Sexps} (f : ItemFirst text cells xs item next) where
@@ -183,11 +179,11 @@ module _ {text table : List ℕ} {known : ℕ} {cells row row' : List ℕ} {k at
     gathers_on v a l = record { goes = λ T xs s w. gathered_on T xs s w v a l; long = length-set row' k v ∙ g.long }
 
     pub gathers_small : (v : ℕ) → q ≡ Ok v → (s : SomeSorts text table known) → Held text cells → v ≤ SORTS
-    gathers_small v a s w = first_small told (turn (only s.0) w.0 s.1 w.1) v a s
+    gathers_small v a s w = first_small told (turn (sorted s.0) w.0 s.1 w.1) v a s
 
   -- the item is one of some list
   pub gathers_item : {item : List ℕ} {next : Each} → Here cells item at next → (r : Item) → r ≡ item_at item 0 → SomeSorts text table known → Held text cells → SomeItem text r
-  gathers_item h r f s w = let o = g.goes (only s.0) w.0 s.1 w.1 in some_first r (turn_holds o.walk h) (turn_some o.walk h) f
+  gathers_item h r f s w = let o = g.goes (sorted s.0) w.0 s.1 w.1 in some_first r (turn_holds o.walk h) (turn_some o.walk h) f
 
 -- the answers of `arguments_at`
 pub arguments_atom : (T : Theory) (x : Sexp) {text : List ℕ} {p : ℕ} → AtomIs text x p → arguments_of T x ≡ refuse 11 0 (tt {0})

@@ -8,9 +8,6 @@ use native.Mathlib.Numerals.{add-one}
 use lib.ListN.{length-drop, drop_of_length-le, length, take, drop, set, length-append}
 use lib.Seq.{drop-drop, take_all, sets, sets-eq, length-sets, take_at, take-length, paste, length-paste}
 use Rattle.rules.specs.Limits.{LENGTH, SORTS, SYMBOLS, ARGUMENTS}
-use Rattle.rules.specs.Text.{same}
-use Rattle.rules.specs.Find.{first}
-use Rattle.rules.specs.Laws.Find.{next, first_next}
 use Rattle.rules.specs.Out.{Out, ok, refuse}
 use Rattle.rules.specs.Sexp.{Sexp, Sexps, item, Name}
 use Rattle.rules.specs.Theory.{Theory, Symbol, sort_named}
@@ -23,7 +20,6 @@ use Rattle.sexp.specs.NameRows.{NameIn}
 use Rattle.kernel.specs.SignatureRows.{sorts_cells, symbols_cells, inputs_cells}
 use Rattle.kernel.specs.Held.{Front, NameFits, SortsHeld, SymbolsHeld, SymbolIs}
 use Rattle.kernel.proofs.Spellings.{Proper}
-use Rattle.sexp.specs.FoundLaws.{found_at, found_missing}
 
 -- the first cells, and more written behind them
 pub front_write : (table xs vs : List ℕ) (i : ℕ) → Front table xs → length xs ≡ i → i + length vs ≤ length table → Front (sets table i vs) (xs ++ vs)
@@ -70,21 +66,16 @@ pub record SortStored (text table : List ℕ) (T : Theory) (given : Out Theory (
 -- the answers of `add_sort`
 module _ {text table : List ℕ} {count : ℕ} (T : Theory) (xs : Sexps) (h : SortsHeld text table count T.sorts) (s e : ℕ)
     (p : Proper text (item xs 1) s e) (r : Option ℕ)
-    (a : r ≡ (first (λ n. same n.bytes (take (e - s) (drop s text))) T.sorts 0)) where
-  named_so : sort_named T p.name.bytes ≡ next (first (λ n. same n.bytes (take (e - s) (drop s text))) T.sorts 0)
-  unfolding sort_named
-  named_so =
-      ap (λ l. first (λ (n : Name). same n.bytes l) T.sorts 1) (sym p.part)
-      ∙ first_next (λ (n : Name). same n.bytes (take (e - s) (drop s text))) T.sorts 0
+    (a : r ≡ sort_named T (take (e - s) (drop s text))) where
+  named_so : sort_named T p.name.bytes ≡ r
+  named_so = ap (sort_named T) (sym p.part) ∙ sym a
 
   pub sort_twice : (i : ℕ) → r ≡ some i → add_sort xs T ≡ refuse 11 0 T
-  unfolding next
-  sort_twice i b = add_sort_known T xs p.name p.is (suc i) (named_so ∙ ap next (found_at (first (λ (n : Name). same n.bytes (take (e - s) (drop s text))) T.sorts 0) r i a b))
+  sort_twice i b = add_sort_known T xs p.name p.is i (named_so ∙ b)
 
   module _ (b : r ≡ nothing) where
     sort_fresh : sort_named T p.name.bytes ≡ nothing
-    unfolding next
-    sort_fresh = named_so ∙ ap next (found_missing (first (λ (n : Name). same n.bytes (take (e - s) (drop s text))) T.sorts 0) r a b)
+    sort_fresh = named_so ∙ b
 
     pub sort_full : SORTS ≤ count → add_sort xs T ≡ refuse 60 1 T
     sort_full l = add_sort_full T xs p.name p.is sort_fresh (omega (arith, l, h.many))

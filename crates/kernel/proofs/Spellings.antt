@@ -3,13 +3,12 @@ use mathlib.Core.Path.{◌≡◌, refl, sym, ap, ◌∙◌}
 use Prim.Native.Nat.{ℕ, ◌+◌, ◌-◌, ◌≤◌}
 use mathlib.Core.Bool.{Bool, true, false}
 use Rattle.std.specs.Prelude.{Option, Some as some, None as nothing, Result, Ok, Err, ok_or}
-use mathlib.Core.List.{List}
+use mathlib.Core.List.{List, []}
 use native.Mathlib.Omega.{arith}
-use native.Mathlib.Numerals.{add-one}
 use lib.ListN.{length, take, drop}
 use Rattle.rules.specs.Text.{same}
 use Rattle.rules.specs.Find.{first}
-use Rattle.rules.specs.Laws.Find.{next, first_next}
+use Rattle.rules.specs.Theory.{Theory, sort_named}
 use Rattle.rules.specs.Lex.{letters}
 use Rattle.rules.specs.Sexp.{Sexp, Sexps, atom, list, Name, marked, item}
 use Rattle.sexp.specs.Spelt.{Spelt}
@@ -21,7 +20,6 @@ use Rattle.kernel.specs.Spelled.{name_of}
 use Rattle.rules.specs.Laws.Declaring.{proper, sort_of, sort_of_name}
 use Rattle.sexp.specs.Never.{never}
 use Rattle.sexp.specs.AtomText.{atom_text}
-use Rattle.sexp.specs.FoundLaws.{found_at, found_missing}
 use Rattle.sexp.specs.NameRows.{NameIn}
 use Rattle.questions.specs.declared.Question.{Question}
 use Rattle.questions.specs.declared.Question.TheVariants.{Declared}
@@ -107,24 +105,15 @@ pub sort_unnamed : (ns : List Name) (x : Sexp) {e : Question} → Nameless x e �
 unfolding sort_of sort_of_name
 sort_unnamed ns x k = rw (k.is, k.error)
 
-module _ (text : List ℕ) (ns : List Name) (x : Sexp) (s e : ℕ) (k : Proper text x s e) (r : Option ℕ)
-    (a : r ≡ (first (λ n. same n.bytes (take (e - s) (drop s text))) ns 0)) where
-  sort_is : sort_of ns x ≡ next (first (λ n. same n.bytes (take (e - s) (drop s text))) ns 0)
-  unfolding sort_of sort_of_name
-  sort_is =
-      ap (sort_of_name ns) k.is ∙ ap (λ l. first (λ (n : Name). same n.bytes l) ns 1) (sym k.part)
-      ∙ first_next (λ (n : Name). same n.bytes (take (e - s) (drop s text))) ns 0
+-- the theory that has these sorts alone
+abbrev pub sorted : List Name → Theory
+sorted ns = record { sorts = ns; symbols = []; rules = [] }
 
-  pub sort_found : (i : ℕ) → r ≡ some i → Ok (i + 1) ≡ ok_or (sort_of ns x) Declared
-  unfolding next
-  sort_found i b =
-      ap Ok (add-one i)
-      ∙ ap (λ o. ok_or o Declared) (sym (sort_is ∙ ap next (found_at (first (λ (n : Name). same n.bytes (take (e - s) (drop s text))) ns 0) r i a b)))
-
-  pub sort_missing : r ≡ nothing → Err Declared ≡ ok_or (sort_of ns x) Declared
-  unfolding next
-  sort_missing b =
-      ap (λ o. ok_or o Declared) (sym (sort_is ∙ ap next (found_missing (first (λ (n : Name). same n.bytes (take (e - s) (drop s text))) ns 0) r a b)))
+pub sort_so : (text : List ℕ) (ns : List Name) (x : Sexp) (s e : ℕ) → Proper text x s e → {o : Option ℕ} {r : Result ℕ Question} →
+    o ≡ sort_named (sorted ns) (take (e - s) (drop s text)) → r ≡ ok_or o Declared → r ≡ ok_or (sort_of ns x) Declared
+unfolding sort_of sort_of_name sort_named
+sort_so text ns x s e k a b =
+    b ∙ ap (λ z. ok_or z Declared) (a ∙ ap (λ l. first (λ (n : Name). same n.bytes l) ns 1) k.part ∙ sym (ap (sort_of_name ns) k.is))
 
 -- the answers of `proper_at`
 module _ {text words : List ℕ} (k : ℕ) {r : Result Place Question} where

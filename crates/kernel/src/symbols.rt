@@ -1,5 +1,5 @@
 // Sorts, constructors and predicates, from the items of their declarations to their rows.
-ghost use Rattle.std.specs.Prelude.{◌≡◌, ℕ, ◌+◌, List, ok_or};
+ghost use Rattle.std.specs.Prelude.{◌≡◌, ℕ, List, ok_or};
 ghost use Rattle.questions.specs.declared.Question.TheVariants.{Declared};
 ghost use Rattle.rules.specs.Sexp.{Sexp, Sexps, Name, marked, item};
 ghost use Rattle.rules.specs.Theory.{Theory};
@@ -9,16 +9,15 @@ ghost use Rattle.sexp.specs.Items.{item_of, Holds};
 ghost use Rattle.rules.specs.Laws.Declaring.{proper, sort_of};
 ghost use Rattle.kernel.specs.Spelled.{Reaching, name_of};
 ghost use Rattle.sexp.specs.FirstItem.{SomeItem};
-ghost use Rattle.sexp.specs.NameRows.{NameRows, SomeNames};
-ghost use Rattle.kernel.specs.Held.{Form};
+ghost use Rattle.kernel.specs.Held.{Form, SortsHeld, SomeSorts};
 ghost use Rattle.kernel.specs.Tables.{SameTables, Holding, HoldingSome, Leaving};
 
 use crate::atoms::{marked, put_name};
+use crate::readers::sort_named;
 use crate::tables::Tables;
 use cells::Span;
 use questions::{Question, Row};
 use sexp::items::Item;
-use sexp::names::named;
 use sexp::{items, lex};
 
 // Question 11, `name`: an atom that does not start with `?`, by its place in the text.
@@ -48,15 +47,13 @@ pub fn proper_at(text: &[u8], form: &[u32], number: usize) -> Result<Span, Quest
 // The number of the sort that an item names, from 1 on.
 pub fn sort(text: &[u8], item: Item, sorts: &[u32], count: usize) -> Result<usize, Question>
     requires some_item { SomeItem text.now item }
-    requires some_names { SomeNames text.now sorts.now 2 0 count }
+    requires some_sorts { SomeSorts text.now sorts.now count }
     ensures { (x : Sexp) (at : ℕ) → item ≡ item_of at x → Spelt text.now x →
-        (ns : List Name) → NameRows text.now sorts.now 2 0 count ns → result ≡ ok_or (sort_of ns x) Declared }
+        (ns : List Name) → SortsHeld text.now sorts.now count ns → result ≡ ok_or (sort_of ns x) Declared }
 {
     let name = proper(text, item)?;
-    let Some(i) = named(text, sorts, 2, 0, count, &text[name.from..name.end]) else {
-        return Err(Question::Declared);
-    };
-    Ok(i + 1)
+    let bytes = &text[name.from..name.end];
+    sort_named(text, sorts, count, bytes).ok_or(Question::Declared)
 }
 
 // `(sort NAME)`, given the items of the form.
@@ -70,7 +67,8 @@ pub fn add_sort(text: &[u8], form: &[u32], tables: &mut Tables<'_>) -> Result<()
     let name = proper_at(text, form, 1)?;
     let sorts = &mut *tables.sorts;
     let count = tables.held.sorts;
-    let None = named(text, sorts, 2, 0, count, &text[name.from..name.end]) else {
+    let bytes = &text[name.from..name.end];
+    let None = sort_named(text, sorts, count, bytes) else {
         return Err(Question::Declared);
     };
     if count >= rules::SORTS {

@@ -7,7 +7,7 @@ use Rattle.kernel.specs.Parsed.{DeclaredAs}
 use Rattle.kernel.specs.Tables.{lists_of}
 use Rattle.kernel.proofs.Handed.{handed}
 use Rattle.kernel.proofs.Spellings.{proper_here, proper_nowhere}
-use Rattle.kernel.specs.SignatureRows.{sorts_rows, symbols_rows}
+use Rattle.kernel.specs.SignatureRows.{symbols_rows}
 use Rattle.kernel.proofs.Arguments.{sort_small, sort_known, sort_unknown}
 use Rattle.kernel.proofs.Declared.{reaching, stored_of, ctor_nameless, ctor_stops, ctor_again, ctor_is_new, symbol_cells_lem, symbol_fits, ctor_no_sort}
 use Rattle.kernel.proofs.signatures.add_ctor.Goals as goal
@@ -39,7 +39,7 @@ sort-requires c = record {
     c.nth-result.ensures c.requires.form.xs c.requires.form.holds.cells,
     spells_item c.requires.form.holds 3,
   );
-  some_names = (c.requires.held.0.sorts, sorts_rows c.requires.held.1.sorts);
+  some_sorts = (c.requires.held.0.sorts, c.requires.held.1.sorts);
 }
 
 pub returns-in_err-output-clause-declared : goal.returns-in_err-output-clause-declared

@@ -3,7 +3,6 @@ use Rattle.kernel.proofs.Handed.{handed}
 use Rattle.kernel.proofs.Spellings.{proper_here, proper_nowhere}
 use Rattle.kernel.proofs.Declared.{sort_nameless}
 use Rattle.kernel.proofs.Holding.{sort_fits, sort_twice, sort_full, sort_stored}
-use Rattle.kernel.specs.SignatureRows.{sorts_rows}
 use Rattle.kernel.proofs.symbols.add_sort.Goals as goal
 
 pub proper_at-requires : goal.proper_at-requires
@@ -12,22 +11,22 @@ proper_at-requires c = record { xs = c.requires.form.xs; holds = c.requires.form
 pub returns-in_err-name-clause-declared : goal.returns-in_err-name-clause-declared
 returns-in_err-name-clause-declared c = λ T xs h k. rw (handed c.from_residual.result c.from_residual.ensures) (sort_nameless T xs (proper_nowhere 1 xs c.proper_at.ensures c.in_err-name.was k), h)
 
-pub slice_bounds-named-end : goal.slice_bounds-named-end
-slice_bounds-named-end c = (proper_here 1 c.requires.form.xs c.proper_at.ensures c.in_ok-name.was c.requires.form.holds).high
+pub slice_bounds-bytes-end : goal.slice_bounds-bytes-end
+slice_bounds-bytes-end c = (proper_here 1 c.requires.form.xs c.proper_at.ensures c.in_ok-name.was c.requires.form.holds).high
 
-pub named-requires : goal.named-requires
-named-requires c = (c.requires.held.0.sorts, sorts_rows c.requires.held.1.sorts)
+pub sort_named-requires : goal.sort_named-requires
+sort_named-requires c = (c.requires.held.0.sorts, c.requires.held.1.sorts)
 
 pub returns-in_default-clause-declared : goal.returns-in_default-clause-declared
 returns-in_default-clause-declared c = λ T xs h k. (
-  sort_twice T xs h.sorts _ _ (proper_here 1 xs c.proper_at.ensures c.in_ok-name.was k) _ (c.named.ensures T.sorts (sorts_rows h.sorts)) _
+  sort_twice T xs h.sorts _ _ (proper_here 1 xs c.proper_at.ensures c.in_ok-name.was k) _ (c.sort_named.ensures T h.sorts) _
       c.in_default.is,
   h,
 )
 
 pub returns-then-count-ge-SORTS-clause-declared : goal.returns-then-count-ge-SORTS-clause-declared
 returns-then-count-ge-SORTS-clause-declared c = λ T xs h k. (
-  sort_full T xs h.sorts _ _ (proper_here 1 xs c.proper_at.ensures c.in_ok-name.was k) _ (c.named.ensures T.sorts (sorts_rows h.sorts))
+  sort_full T xs h.sorts _ _ (proper_here 1 xs c.proper_at.ensures c.in_ok-name.was k) _ (c.sort_named.ensures T h.sorts)
       c.in-None.is c.if-count-ge-SORTS.true,
   h,
 )
@@ -39,7 +38,7 @@ put_name-requires c = sort_fits c.requires.held.1.sorts _ _ _ (proper_here 1 c.r
 pub returns-clause-declared : goal.returns-clause-declared
 returns-clause-declared c = λ T xs h k.
     let stored =
-    sort_stored T xs h.sorts _ _ (proper_here 1 xs c.proper_at.ensures c.in_ok-name.was k) _ (c.named.ensures T.sorts (sorts_rows h.sorts))
+    sort_stored T xs h.sorts _ _ (proper_here 1 xs c.proper_at.ensures c.in_ok-name.was k) _ (c.sort_named.ensures T h.sorts)
     c.in-None.is c.if-count-ge-SORTS.false in
     rw c.put_name.ensures
     (record { now = _; is = stored.is; held = record { sorts = stored.held; symbols = h.symbols; rules = h.rules } })
