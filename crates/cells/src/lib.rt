@@ -30,7 +30,7 @@ pub struct Span {
     pub end: usize,
 }
 
-// Every cell becomes 0.
+// Every cell becomes 0: a loop and no `fill`, which clones, and of a clone the trait would have to say that it cannot fail and is the same.
 pub fn clear<T: Cell>(cells: &mut [T])
     ensures { cells.new ≡ replicate (length cells.old) T.ZERO }
 {

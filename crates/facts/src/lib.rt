@@ -33,7 +33,7 @@ impl Fact {
     };
 }
 
-// Whether it is a hypothesis.
+// Whether it is a hypothesis. This and the two below are public and promised, for whoever reads records in Rattle.
 pub fn is_assumed(f: Fact) -> bool
     ensures { result ≡ not (eqb f.assumed 0) }
 {

@@ -13,7 +13,7 @@ use Rattle.sexp.specs.declared.tags.Declaration.TheVariants.{Sort, Ctor, Pred, R
 use Rattle.sexp.specs.declared.tags.GoalForm.{GoalForm as GoalAnswer}
 use Rattle.sexp.specs.declared.tags.GoalForm.TheVariants.{Variable, Goal, GoalWith}
 use Rattle.sexp.specs.Never.{never}
-use Rattle.sexp.specs.TagTable.{row_of, row_in, tag_answer, declaration_answer, goal_answer}
+use Rattle.sexp.specs.TagTable.{row_of, row_in, tag_of_row, tag_answer, declaration_answer, goal_answer}
 
 and_not : (a : Bool) → a && false ≡ false
 and_not true = refl
@@ -87,10 +87,6 @@ retag f r = record { name = r.name; least = r.least; most = r.most; tag = f r.ta
 abbrev pub retagged : {A B : Type 0} → (A → B) → List (Row A) → List (Row B)
 retagged f [] = []
 retagged f (r ∷ rs) = retag f r ∷ retagged f rs
-
-abbrev pub tag_of_row : {T : Type 0} → Option (Listed T) → Option T
-tag_of_row nothing = nothing
-tag_of_row (some r) = some r.tag
 
 abbrev pub index_of_row : {T : Type 0} → Option (Listed T) → Option ℕ
 index_of_row nothing = nothing

@@ -48,3 +48,8 @@ row_of r = record { name = r.name.now; least = r.least; most = r.most; tag = r.t
 unfoldable pub row_in : {T : Type 0} → List (Listed T) → List ℕ → ℕ → Option (Listed T)
 row_in [] x n = nothing
 row_in (r ∷ rs) x n = elim (fits (row_of r) x n) [ true ↦ some r | false ↦ row_in rs x n ]
+
+-- the tag of a row, where there is one
+abbrev pub tag_of_row : {T : Type 0} → Option (Listed T) → Option T
+tag_of_row nothing = nothing
+tag_of_row (some r) = some r.tag

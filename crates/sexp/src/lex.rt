@@ -27,7 +27,7 @@ pub fn plain(text: &[u8]) -> bool
     text.iter().all(|b| *b <= 127)
 }
 
-// How many bytes of white space stand at a place; 0 where there is none.
+// How many bytes of white space stand at a place; 0 where there is none. A width, not whether: nothing above knows that white space is a byte.
 pub fn white(text: &[u8], at: usize) -> usize
     requires { at < length text.now }
     ensures { result ≡ wide (white (get_or text.now at 0)) }
@@ -150,7 +150,7 @@ pub(crate) fn skip(text: &[u8], from: usize) -> usize
     ensures { Skipped text.now from result }
 {
     let mut at = from;
-    // steps are of different widths
+    // steps are a byte of white space, or a whole comment, which no iterator of the text gives
     while at < text.len() {
         let w = white(text, at);
         if w != 0 {

@@ -6,7 +6,8 @@ ghost use Rattle.rules.specs.Find.{first};
 ghost use Rattle.rules.specs.Sexp.{Name};
 ghost use Rattle.sexp.specs.NameRows.{NameRows, SomeNames};
 
-// Whether two names have the same bytes. Names of one tariff often share their beginnings, so the last bytes are looked at first.
+// Whether two names have the same bytes. Names of one tariff often share their beginnings, so the last bytes are looked at first, by a
+// `for` over the places in reverse.
 pub fn same(s: &[u8], t: &[u8]) -> bool
     ensures { result ≡ same s.now t.now }
 {
@@ -65,6 +66,7 @@ pub fn named(
     ensures { (ns : List Name) → NameRows text.now table.now width place count ns →
         result ≡ first (λ n. same n.bytes name.now) ns 0 }
 {
+    // a `for` and no `find`: what would have to be proved of its closure is more than this loop's invariant
     // an index and no `chunks_exact`: the rows may begin anywhere in the table, so that `place` lies behind the end of a chunk, and the last may be short
     for i in 0..count {
         let at = width * i + place;

@@ -1,7 +1,7 @@
 // The tags of forms: one fixed table each for the proof, the theory and the goals.
 ghost use Rattle.std.specs.Prelude.{◌≡◌, Some, None, MatchOption};
 ghost use Rattle.rules.specs.Tags.{fits, proof_tag, declaration, goal_form, index_place};
-ghost use Rattle.sexp.specs.TagTable.{tag_answer, declaration_answer, goal_answer, row_of, row_in};
+ghost use Rattle.sexp.specs.TagTable.{tag_answer, declaration_answer, goal_answer, row_of, row_in, tag_of_row};
 
 use crate::names::same;
 
@@ -46,7 +46,7 @@ struct Row<T> {
     tag: T,
 }
 
-const PROOF: [Row<Tag>; 10] = [
+static PROOF: [Row<Tag>; 10] = [
     Row {
         name: b"var",
         least: 3,
@@ -119,7 +119,7 @@ const PROOF: [Row<Tag>; 10] = [
     },
 ];
 
-const THEORY: [Row<Declaration>; 4] = [
+static THEORY: [Row<Declaration>; 4] = [
     Row {
         name: b"sort",
         least: 2,
@@ -150,7 +150,7 @@ const THEORY: [Row<Declaration>; 4] = [
     },
 ];
 
-const GOALS: [Row<GoalForm>; 3] = [
+static GOALS: [Row<GoalForm>; 3] = [
     Row {
         name: b"var",
         least: 3,
@@ -202,15 +202,22 @@ fn row_in<'a, T>(rows: &'a [Row<T>], name: &[u8], items: usize) -> Option<&'a Ro
     None
 }
 
+// Its tag.
+fn tag_in<T: Copy>(rows: &[Row<T>], name: &[u8], items: usize) -> Option<T>
+    ensures { result ≡ tag_of_row (row_in rows.now name.now items) }
+{
+    let row = row_in(rows, name, items)?;
+    Some(row.tag)
+}
+
 // The tag of a proof's form that begins with that name and has so many items.
 pub fn proof_tag(name: &[u8], items: usize) -> Option<Tag>
     ensures { result ≡ tag_answer (proof_tag name.now items) }
 {
-    let row = row_in(&PROOF, name, items)?;
-    Some(row.tag)
+    tag_in(&PROOF, name, items)
 }
 
-// Where the index of such a form stands among its items.
+// Where the index of such a form stands among its items; public and promised, and nothing here calls it.
 pub fn index_place(name: &[u8], items: usize) -> Option<usize>
     ensures { result ≡ index_place name.now items }
 {
@@ -222,14 +229,12 @@ pub fn index_place(name: &[u8], items: usize) -> Option<usize>
 pub fn theory_tag(name: &[u8], items: usize) -> Option<Declaration>
     ensures { result ≡ declaration_answer (declaration name.now items) }
 {
-    let row = row_in(&THEORY, name, items)?;
-    Some(row.tag)
+    tag_in(&THEORY, name, items)
 }
 
 // The same for the goals'.
 pub fn goal_tag(name: &[u8], items: usize) -> Option<GoalForm>
     ensures { result ≡ goal_answer (goal_form name.now items) }
 {
-    let row = row_in(&GOALS, name, items)?;
-    Some(row.tag)
+    tag_in(&GOALS, name, items)
 }

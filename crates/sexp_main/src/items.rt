@@ -6,7 +6,8 @@ ghost use Rattle.sexp.specs.Items.{Held};
 use sexp::items::{Item, item_at};
 use sexp::lex::atom_end;
 
-// Those that are left: the text that their atoms stand in, and their cells.
+// Those that are left: the text that their atoms stand in, and their cells. `sexp::items::Each` gives cells and asks nothing; these hold the text, and that
+// the cells are of it, so that `show` needs no contract.
 #[derive(Clone, Copy)]
 pub struct Items<'a> {
     pub text: &'a [u8],

@@ -39,7 +39,7 @@ fn show_all<W: Write>(out: &mut W, text: &[u8], words: &mut [u32]) -> io::Result
     requires clear { Clear words.old }
 {
     let mut at = 0;
-    // from form to form, which is no count
+    // from form to form, which is no count; a form is read into lent cells, which no iterator could lend on
     loop {
         match read_form(text, at, words) {
             Ok(Some(form)) => {
