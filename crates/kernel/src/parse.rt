@@ -33,21 +33,13 @@ fn declarations(text: &[u8], cells: &mut [u32], tables: &mut Tables<'_>) -> Resu
                 let declared = declare(text, &cells[..form.cells], tables);
                 clear(&mut cells[..form.cells]);
                 if let Err(question) = declared {
-                    return Err(Refused {
-                        question,
-                        form: forms,
-                    });
+                    return Err(question.behind(forms));
                 }
                 forms += 1;
                 at = form.end;
             }
             // a text that was read whole before is not refused here
-            Err(question) => {
-                return Err(Refused {
-                    question,
-                    form: forms,
-                });
-            }
+            Err(question) => return Err(question.behind(forms)),
         }
     }
 }

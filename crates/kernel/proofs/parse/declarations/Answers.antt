@@ -14,9 +14,9 @@ returns-in-Ok-None-clause-run c = (ended c.loop-form.invariant.0 c.read_form.ens
 pub returns-in-Err-declared-clause-run : goal.returns-in-Err-declared-clause-run
 returns-in-Err-declared-clause-run c = let under = c.loop-form.invariant.0 in
     let some = c.in-Ok-Some.is ∙ ap Ok c.in-Ok-Some.field-0-is in
-    declared_no under c.read_form.ensures some _ _
+    rw c.behind.ensures (declared_no under c.read_form.ensures some _ _
     (c.declare-declared.ensures.declared under.T (it under c.read_form.ensures some).form under.theory (formed under c.read_form.ensures some))
-    c.in-Err-declared.is
+    c.in-Err-declared.is)
 
 pub returns-in-Err-declared-clause-cells_unchanged : goal.returns-in-Err-declared-clause-cells_unchanged
 returns-in-Err-declared-clause-cells_unchanged c =
@@ -35,4 +35,4 @@ loop-form-preserved c = let under = c.loop-form.invariant.0 in
     )
 
 pub returns-in-Err-clause-run : goal.returns-in-Err-clause-run
-returns-in-Err-clause-run c = (failed c.loop-form.invariant.0 c.read_form.ensures c.in-Err.is).0
+returns-in-Err-clause-run c = rw c.behind-in-Err.ensures (failed c.loop-form.invariant.0 c.read_form.ensures c.in-Err.is).0
