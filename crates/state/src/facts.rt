@@ -45,7 +45,8 @@ pub fn is_plain(facts: &[u32], i: usize) -> bool
     facts[at + 1] != 0 && facts[at + 4] == 0 && facts[at + 5] == 0
 }
 
-// The entries of fact i's hypotheses.
+// The entries of fact i's hypotheses. This one, `premises` and `general` read fields of a row that C lends: one function over a place would say less
+// plainly which field it is.
 pub fn hyps(facts: &[u32], i: usize) -> Span
     requires { FactAt facts.now i }
     ensures { result ≡ hyps_span facts.now i }
@@ -58,7 +59,7 @@ pub fn hyps(facts: &[u32], i: usize) -> Span
     }
 }
 
-// The entries of its premises.
+// The entries of its premises; a function of its own, as `hyps` is.
 pub fn premises(facts: &[u32], i: usize) -> Span
     requires { FactAt facts.now i }
     ensures { result ≡ premises_span facts.now i }
@@ -71,7 +72,7 @@ pub fn premises(facts: &[u32], i: usize) -> Span
     }
 }
 
-// The entries of its generalised variables.
+// The entries of its generalised variables; a function of its own, as `hyps` is.
 pub fn general(facts: &[u32], i: usize) -> Span
     requires { FactAt facts.now i }
     ensures { result ≡ general_span facts.now i }
@@ -94,7 +95,8 @@ pub fn join_footing(footings: &[u64], i: usize, set: &mut [u64])
     union_into(set, &footings[from..end]);
 }
 
-// The row of fact i. Its parameters are the row's cells: a struct of them would be made for a call and taken apart again.
+// The row of fact i. Its parameters are the row's cells: of kernel's `RuleRow` four cells are two spans that its caller has, here no two belong together,
+// and a struct of all would be made for a call and taken apart again. `assumed` is stored, it chooses no step.
 fn put_row(
     facts: &mut [u32],
     i: usize,

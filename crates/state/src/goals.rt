@@ -25,7 +25,7 @@ pub fn goal_judgment(goals: &[u32], k: usize) -> usize
     goals[6 * k + 2] as usize
 }
 
-// The entries of goal k's hypotheses.
+// The entries of goal k's hypotheses: fields of a row that C lends. One function over a place, for facts too, would say less plainly which field it is.
 pub fn goal_hyps(goals: &[u32], k: usize) -> Span
     requires { GoalAt goals.now k }
     ensures { result ≡ list_span goals.now k }
