@@ -1,7 +1,7 @@
 -- The loop over bindings: what is left of the items, from the map and the store as they are now, gives what all of them give from the start.
 -- Assumes nothing.
 use mathlib.Core.Path.{◌≡◌, sym, ap, ◌∙◌, subst}
-use mathlib.Core.Bool.{not}
+use mathlib.Core.Bool.{not, true, false, true≢false, false≢true}
 use mathlib.Core.List.{List, []}
 use Prim.Native.Nat.{ℕ, ◌+◌, ◌-◌, ◌^◌, ◌<◌, ◌≤◌}
 use native.Mathlib.Omega.{arith}
@@ -26,6 +26,7 @@ use Rattle.terms.specs.Laws.Zeros.{get_d_zeros}
 use Rattle.terms.specs.Laws.Theta.{bindings_none, bindings_bound, bindings_set, bindings_grown, theta_grown}
 use Rattle.state.specs.declared.sizes.Sizes.{Sizes}
 use Rattle.state.specs.Held.{Names}
+use Rattle.std.specs.Result.{is_err}
 use Rattle.reading.specs.Given.{Reads, ReadsItem, ReadsItems}
 use Rattle.reading.specs.Answers.{PairRead, PairBy, BindingsRead, BindingsBy}
 use Rattle.reading.specs.Laws.Reading.{reads_binding}
@@ -157,11 +158,19 @@ module _ {K : Names} {n : Sizes} {I W : List ℕ} {old : Mark} {cells : List ℕ
 module _ {K : Names} {n : Sizes} {I W : List ℕ} {m : Mark} {cells : List ℕ} (J X map : List ℕ) (new : Mark) (r : Result (Unit {0}) Question)
     (g : ReadsItems K n I W m cells)
     (h : (k : ReadsItems K n I W m cells) → BindingsBy I W J X m new (bindings k.S k.xs [] (made I W m)) map map r) where
-  pub bindings_ok : (before : List ℕ) → r ≡ Ok tt → BindingsBy I W J X m new (bindings g.S g.xs [] (made I W m)) before map (Ok tt)
-  bindings_ok before e = subst (λ z. BindingsBy I W J X m new (bindings g.S g.xs [] (made I W m)) map map z) e (h g)
+  pub bindings_ok : (before : List ℕ) → is_err r ≡ false → BindingsBy I W J X m new (bindings g.S g.xs [] (made I W m)) before map r
+  bindings_ok before e = go r (h g) e
+    where
+      go : (z : Result (Unit {0}) Question) → BindingsBy I W J X m new (bindings g.S g.xs [] (made I W m)) map map z → is_err z ≡ false →
+          BindingsBy I W J X m new (bindings g.S g.xs [] (made I W m)) before map z
+      go (Ok _) k f = k
+      go (Err q) k f = absurd (true≢false f)
 
-  pub bindings_err : {before last : List ℕ} {q : Question} → r ≡ Err q → before ≡ replicate VARIABLES 0 → length map ≡ length before →
-      last ≡ replicate (length map) 0 → BindingsBy I W J X m new (bindings g.S g.xs [] (made I W m)) before last (Err q)
-  bindings_err e o s c =
-      let k = subst (λ z. BindingsBy I W J X m new (bindings g.S g.xs [] (made I W m)) map map z) e (h g) in
-      (k.0, cleared map o (s ∙ ap length o ∙ length-replicate {A = ℕ} VARIABLES 0) c)
+  pub bindings_err : {before last : List ℕ} → is_err r ≡ true → before ≡ replicate VARIABLES 0 → length map ≡ length before →
+      last ≡ replicate (length map) 0 → BindingsBy I W J X m new (bindings g.S g.xs [] (made I W m)) before last r
+  bindings_err {before} {last} e o s c = go r (h g) e
+    where
+      go : (z : Result (Unit {0}) Question) → BindingsBy I W J X m new (bindings g.S g.xs [] (made I W m)) map map z → is_err z ≡ true →
+          BindingsBy I W J X m new (bindings g.S g.xs [] (made I W m)) before last z
+      go (Ok _) k f = absurd (false≢true f)
+      go (Err q) k f = (k.0, cleared map o (s ∙ ap length o ∙ length-replicate {A = ℕ} VARIABLES 0) c)

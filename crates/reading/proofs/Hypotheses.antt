@@ -1,6 +1,6 @@
 -- The loop over a list of hypotheses: each an earlier fact that passes the test. Assumes nothing.
 use mathlib.Core.Path.{◌≡◌, refl, sym, ap, ◌∙◌, subst}
-use mathlib.Core.Bool.{Bool, true, false, not}
+use mathlib.Core.Bool.{Bool, true, false, not, true≢false, false≢true}
 use Rattle.std.specs.Prelude.{Option, Some as some, None as nothing, Result, Ok, Err}
 use mathlib.Core.List.{List, [], ◌∷◌, ◌++◌, append-nil, append_assoc}
 use Prim.Native.Nat.{ℕ, zero, suc, ◌-◌, ◌*◌, ◌<◌, ◌≤◌}
@@ -31,6 +31,7 @@ use Rattle.state.specs.Rows.{cell, plain_row}
 use Rattle.state.specs.RowTables.{tabled_long}
 use Rattle.state.specs.FactLaws.{facts_tabled, fact_row_lem}
 use Rattle.reading.specs.Items.{FirstItem, index_in, index_found}
+use Rattle.std.specs.Result.{is_err}
 use Rattle.reading.specs.Given.{FactsItem, FactsItems}
 use Rattle.reading.specs.Answers.{HypsRead, HypsAs}
 use Rattle.questions.specs.declared.Question.{Question}
@@ -228,14 +229,20 @@ module _ {text facts cells : List ℕ} {n : Sizes} (g : FactsItem text facts n c
 -- A list that is read, or that is refused: then the set, which was empty before, is cleared
 module _ {text facts cells : List ℕ} {n : Sizes} (g : FactsItem text facts n cells) {a b : ℕ} (l : ListIs text cells g.x a b) (p : Fact → Bool)
     (set : List ℕ) (r : Result (Unit {0}) Question) (h : HypsAs p g.S (list l.items) set set r) where
-  pub hyps_ok : (before : List ℕ) → r ≡ Ok tt → HypsAs p g.S g.x before set (Ok tt)
-  hyps_ok before e = subst (λ z. HypsAs p g.S g.x set set z) e (hyps_inside g l p set set r h)
+  pub hyps_ok : (before : List ℕ) → is_err r ≡ false → HypsAs p g.S g.x before set r
+  hyps_ok before e = go r (hyps_inside g l p set set r h) e
+    where
+      go : (z : Result (Unit {0}) Question) → HypsAs p g.S g.x set set z → is_err z ≡ false → HypsAs p g.S g.x before set z
+      go (Ok _) k f = k
+      go (Err q) k f = absurd (true≢false f)
 
-  pub hyps_err : {before last : List ℕ} {q : Question} → r ≡ Err q → before ≡ replicate FACTWORDS 0 → length set ≡ length before → last ≡ replicate (length set) 0 →
-      HypsAs p g.S g.x before last (Err q)
-  hyps_err {before} e o s c =
-      let k = subst (λ z. HypsAs p g.S g.x set set z) e (hyps_inside g l p set set r h) in
-      (k.0, (cleared set o (s ∙ ap length o ∙ length-replicate {A = ℕ} FACTWORDS 0) c, k.1.1))
+  pub hyps_err : {before last : List ℕ} → is_err r ≡ true → before ≡ replicate FACTWORDS 0 → length set ≡ length before → last ≡ replicate (length set) 0 →
+      HypsAs p g.S g.x before last r
+  hyps_err {before} {last} e o s c = go r (hyps_inside g l p set set r h) e
+    where
+      go : (z : Result (Unit {0}) Question) → HypsAs p g.S g.x set set z → is_err z ≡ true → HypsAs p g.S g.x before last z
+      go (Ok _) k f = absurd (false≢true f)
+      go (Err q) k f = (k.0, (cleared set o (s ∙ ap length o ∙ length-replicate {A = ℕ} FACTWORDS 0) c, k.1.1))
 
 -- The tests -------------------------------------------------------------------------------------------------------------------------------
 

@@ -1,5 +1,6 @@
 -- The loop over a list of judgments. Assumes nothing.
 use mathlib.Core.Path.{◌≡◌, refl, sym, ap, ◌∙◌, subst}
+use mathlib.Core.Bool.{true, false, true≢false, false≢true}
 use mathlib.Core.List.{List, [], ◌∷◌, ◌++◌}
 use Prim.Native.Nat.{ℕ, ◌+◌, ◌-◌, ◌<◌, ◌≤◌}
 use native.Mathlib.Omega.{arith}
@@ -28,6 +29,7 @@ use Rattle.state.specs.Filled.{filled_none}
 use Rattle.std.specs.Prelude.{Result, Ok, Err}
 use Rattle.questions.specs.Numbers.{number_of, detail_of}
 use Rattle.questions.specs.declared.Question.{Question}
+use Rattle.std.specs.Result.{is_err}
 use Rattle.reading.specs.Given.{Reads, ReadsItem, ReadsItems}
 use Rattle.reading.specs.Answers.{TermRead, ReadBy, JudgmentsRead, JudgmentsBy}
 use Rattle.reading.specs.Laws.Reading.{reads_judgment, reads_item}
@@ -192,11 +194,19 @@ module _ {K : Names} {n : Sizes} {I W : List ℕ} {m : Mark} {cells : List ℕ} 
     unfolding reads_inside
     inside = subst (λ (z : Sexp). JudgmentsBy I W J X m new (judgments g.S z (made I W m)) out out r) (sym l.is) (h reads_inside)
 
-    pub judgments_ok : (before : List ℕ) {many : ℕ} → r ≡ Ok many → JudgmentsBy I W J X m new (judgments g.S g.x (made I W m)) before out (Ok many)
-    judgments_ok before e = subst (λ z. JudgmentsBy I W J X m new (judgments g.S g.x (made I W m)) out out z) e inside
+    pub judgments_ok : (before : List ℕ) → is_err r ≡ false → JudgmentsBy I W J X m new (judgments g.S g.x (made I W m)) before out r
+    judgments_ok before e = go r inside e
+      where
+        go : (z : Result ℕ Question) → JudgmentsBy I W J X m new (judgments g.S g.x (made I W m)) out out z → is_err z ≡ false →
+            JudgmentsBy I W J X m new (judgments g.S g.x (made I W m)) before out z
+        go (Ok many) k f = k
+        go (Err q) k f = absurd (true≢false f)
 
-    pub judgments_err : {before last : List ℕ} {q : Question} → r ≡ Err q → before ≡ replicate (length before) 0 → length out ≡ length before →
-        last ≡ replicate (length out) 0 → JudgmentsBy I W J X m new (judgments g.S g.x (made I W m)) before last (Err q)
-    judgments_err e o s c =
-        let k = subst (λ z. JudgmentsBy I W J X m new (judgments g.S g.x (made I W m)) out out z) e inside in
-        (k.0, cleared out o s c)
+    pub judgments_err : {before last : List ℕ} → is_err r ≡ true → before ≡ replicate (length before) 0 → length out ≡ length before →
+        last ≡ replicate (length out) 0 → JudgmentsBy I W J X m new (judgments g.S g.x (made I W m)) before last r
+    judgments_err {before} {last} e o s c = go r inside e
+      where
+        go : (z : Result ℕ Question) → JudgmentsBy I W J X m new (judgments g.S g.x (made I W m)) out out z → is_err z ≡ true →
+            JudgmentsBy I W J X m new (judgments g.S g.x (made I W m)) before last z
+        go (Ok many) k f = absurd (false≢true f)
+        go (Err q) k f = (k.0, cleared out o s c)

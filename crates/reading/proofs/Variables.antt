@@ -1,7 +1,8 @@
 -- The loop over a list of variables, each given once. Assumes nothing.
 use mathlib.Core.Path.{◌≡◌, refl, sym, ap, ◌∙◌, subst}
-use mathlib.Core.Bool.{Bool, true, false}
+use mathlib.Core.Bool.{Bool, true, false, true≢false, false≢true}
 use Rattle.std.specs.Prelude.{Some as some, None as nothing, Option}
+use Rattle.std.specs.Option.{is_some}
 use mathlib.Core.List.{List, [], ◌∷◌, ◌++◌}
 use Prim.Native.Nat.{ℕ, ◌+◌, ◌-◌, ◌<◌, ◌≤◌}
 use native.Mathlib.Omega.{arith}
@@ -154,11 +155,17 @@ module _ {goals text vars cells : List ℕ} {count : ℕ} (g : VarsItem goals te
 
   -- it is read, or refused: then the cells, which were zero before, are cleared
   module _ (out : List ℕ) (r : Option ℕ) (h : (k : VarsItems goals text vars count (take (b - a) (drop a cells))) → VarsAs k.S.vars (list k.xs) out out r) where
-    pub vars_some : (before : List ℕ) {many : ℕ} → r ≡ some many → VarsAs g.S.vars g.x before out (some many)
-    vars_some before e = subst (λ z. VarsAs g.S.vars g.x out out z) e (vars_inside out out r h)
+    pub vars_some : (before : List ℕ) → is_some r ≡ true → VarsAs g.S.vars g.x before out r
+    vars_some before e = go r (vars_inside out out r h) e
+      where
+        go : (z : Option ℕ) → VarsAs g.S.vars g.x out out z → is_some z ≡ true → VarsAs g.S.vars g.x before out z
+        go (some many) k f = k
+        go nothing k f = absurd (false≢true f)
 
-    pub vars_none : {before last : List ℕ} → r ≡ nothing → before ≡ replicate VARIABLES 0 → length out ≡ length before → last ≡ replicate (length out) 0 →
-        VarsAs g.S.vars g.x before last nothing
-    vars_none e o s c =
-        let k = subst (λ z. VarsAs g.S.vars g.x out out z) e (vars_inside out out r h) in
-        (k.0, cleared out o (s ∙ ap length o ∙ length-replicate {A = ℕ} VARIABLES 0) c)
+    pub vars_none : {before last : List ℕ} → is_some r ≡ false → before ≡ replicate VARIABLES 0 → length out ≡ length before → last ≡ replicate (length out) 0 →
+        VarsAs g.S.vars g.x before last r
+    vars_none {before} {last} e o s c = go r (vars_inside out out r h) e
+      where
+        go : (z : Option ℕ) → VarsAs g.S.vars g.x out out z → is_some z ≡ false → VarsAs g.S.vars g.x before last z
+        go (some many) k f = absurd (true≢false f)
+        go nothing k f = (k.0, cleared out o (s ∙ ap length o ∙ length-replicate {A = ℕ} VARIABLES 0) c)

@@ -79,12 +79,10 @@ impl Reader<'_> {
         ensures bindings_as { (g : ReadsItems (names_of self.now) self.now.n store.old.index.now store.old.words.now store.old.mark cells.now) →
             BindingsAs store.old store.new (bindings g.S g.xs [] (made_of store.old)) map.old map.new result }
     {
-        match self.binding_each(store, cells, map) {
-            Ok(()) => Ok(()),
-            Err(question) => {
-                clear(map);
-                Err(question)
-            }
+        let each = self.binding_each(store, cells, map);
+        if each.is_err() {
+            clear(map);
         }
+        each
     }
 }

@@ -59,13 +59,11 @@ impl Reader<'_> {
         let Item::List(a, b) = items::item_at(cells, 0) else {
             return Err(Question::Earlier);
         };
-        match self.hyp_each(facts, &cells[a..b], passes, set) {
-            Ok(()) => Ok(()),
-            Err(question) => {
-                clear(set);
-                Err(question)
-            }
+        let each = self.hyp_each(facts, &cells[a..b], passes, set);
+        if each.is_err() {
+            clear(set);
         }
+        each
     }
 
     // Plain hypotheses.

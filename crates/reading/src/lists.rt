@@ -35,7 +35,7 @@ impl Reader<'_> {
             VarsAs g.S.vars (list g.xs) out.new out.new result }
     {
         let mut seen = [0u64; VARIABLEWORDS];
-        // counted beside the items, since it is answered: asked of them, it would be a second walk
+        // `k` is answered: an `enumerate` would leave it to a second walk or a variable beside it, which is no plainer
         let mut k = 0;
         for item in items::all(cells) {
             let v = self.variable(item)?;
@@ -59,13 +59,11 @@ impl Reader<'_> {
         let Item::List(a, b) = items::item_at(cells, 0) else {
             return None;
         };
-        match self.vars_each(&cells[a..b], out) {
-            Some(count) => Some(count),
-            None => {
-                clear(out);
-                None
-            }
+        let count = self.vars_each(&cells[a..b], out);
+        if count.is_none() {
+            clear(out);
         }
+        count
     }
 
     // The judgments that the items spell: their numbers come into the cells, which are zero before, as far as there are cells. What is answered is
@@ -82,7 +80,7 @@ impl Reader<'_> {
         ensures judgments_as { (g : ReadsItems (names_of self.now) self.now.n store.old.index.now store.old.words.now store.old.mark cells.now) →
             JudgmentsAs store.old store.new (judgments g.S (list g.xs) (made_of store.old)) out.new out.new result }
     {
-        // counted beside the items, as in `vars_each`
+        // `k` is answered, as in `vars_each`
         let mut k = 0;
         for item in items::all(cells) {
             let t = self.judgment(store, item)?;
@@ -109,12 +107,10 @@ impl Reader<'_> {
         let Item::List(a, b) = items::item_at(cells, 0) else {
             return Err(Question::Spelling);
         };
-        match self.judgment_each(store, &cells[a..b], out) {
-            Ok(count) => Ok(count),
-            Err(question) => {
-                clear(out);
-                Err(question)
-            }
+        let count = self.judgment_each(store, &cells[a..b], out);
+        if count.is_err() {
+            clear(out);
         }
+        count
     }
 }

@@ -197,7 +197,8 @@ impl Reader<'_> {
     }
 
     // The terms that the items spell, as the arguments of symbol c. Where they are as many as its inputs and each of its sort, the node is that of c over
-    // them, and what is answered is how long it is. `k` is counted beside the items, since the answer needs it: asked of them, it would be a second walk.
+    // them, and what is answered is how long it is. `k` is in the answer: an `enumerate` would leave it to a second walk or a variable beside it, which
+    // is no plainer.
     #[cycle(arguments_compound_term)]
     fn arguments(
         &self,

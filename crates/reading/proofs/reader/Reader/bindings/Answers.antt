@@ -1,8 +1,9 @@
+use mathlib.Core.Path.{sym, ◌∙◌}
 use Rattle.reading.proofs.Binds.{bindings_ok, bindings_err}
 use Rattle.reading.proofs.reader.Reader.bindings.Goals as goal
 
-pub returns-in-Ok-clause-bindings_as : goal.returns-in-Ok-clause-bindings_as
-returns-in-Ok-clause-bindings_as c = λ g. bindings_ok _ _ _ _ _ g c.binding_each.ensures.bindings_as c.args.map.now c.in-Ok.is
+pub returns-else-is_err-clause-bindings_as : goal.returns-else-is_err-clause-bindings_as
+returns-else-is_err-clause-bindings_as c = λ g. bindings_ok _ _ _ _ _ g c.binding_each-each.ensures.bindings_as c.args.map.now (sym c.is_err.ensures.value ∙ c.if-is_err.false)
 
-pub returns-in-Err-clause-bindings_as : goal.returns-in-Err-clause-bindings_as
-returns-in-Err-clause-bindings_as c = λ g. bindings_err _ _ _ _ _ g c.binding_each.ensures.bindings_as c.in-Err.is c.requires.map_value c.binding_each.auto.map c.clear.ensures
+pub returns-then-is_err-clause-bindings_as : goal.returns-then-is_err-clause-bindings_as
+returns-then-is_err-clause-bindings_as c = λ g. bindings_err _ _ _ _ _ g c.binding_each-each.ensures.bindings_as (sym c.is_err.ensures.value ∙ c.if-is_err.true) c.requires.map_value c.binding_each-each.auto.map c.clear.ensures

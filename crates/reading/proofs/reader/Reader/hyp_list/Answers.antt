@@ -1,4 +1,4 @@
-use mathlib.Core.Path.{refl}
+use mathlib.Core.Path.{refl, sym, ◌∙◌}
 use native.Mathlib.Omega.{arith}
 use Rattle.reading.specs.Laws.Walks.{first_some, first_atom, first_list}
 use Rattle.reading.proofs.Hypotheses.{atom_refuses, facts_inside, hyps_ok, hyps_err}
@@ -15,7 +15,6 @@ offset_bounds-cells-a o c = omega (
   arith,
   (first_list c.requires.item.0.holds c.item_at.ensures c.in-List.is).low,
   (first_list c.requires.item.0.holds c.item_at.ensures c.in-List.is).high,
-  c.well_formed.1.1.1.0,
 )
 
 pub slice_bounds-hyp_each-count : goal.slice_bounds-hyp_each-count
@@ -27,13 +26,13 @@ slice_bounds-hyp_each-start o c = (first_list c.requires.item.0.holds c.item_at.
 pub slice_bounds-hyp_each-end : goal.slice_bounds-hyp_each-end
 slice_bounds-hyp_each-end o c = (first_list c.requires.item.0.holds c.item_at.ensures c.in-List.is).high
 
-pub hyp_each-requires : goal.hyp_each-requires
-hyp_each-requires o c =
+pub hyp_each-each-requires : goal.hyp_each-each-requires
+hyp_each-each-requires o c =
     let i = c.requires.item.0 in
     record { items = (facts_inside i (first_list i.holds c.item_at.ensures c.in-List.is), c.requires.item.1); callable = c.requires.callable }
 
-pub returns-in-Ok : goal.returns-in-Ok
-returns-in-Ok o c = λ g p s. hyps_ok g (first_list g.holds c.item_at.ensures c.in-List.is) p _ _ (c.hyp_each.ensures (facts_inside g (first_list g.holds c.item_at.ensures c.in-List.is)) p s) c.args.set.now c.in-Ok.is
+pub returns-else-is_err : goal.returns-else-is_err
+returns-else-is_err o c = λ g p s. hyps_ok g (first_list g.holds c.item_at.ensures c.in-List.is) p _ _ (c.hyp_each-each.ensures (facts_inside g (first_list g.holds c.item_at.ensures c.in-List.is)) p s) c.args.set.now (sym c.is_err.ensures.value ∙ c.if-is_err.false)
 
-pub returns-in-Err : goal.returns-in-Err
-returns-in-Err o c = λ g p s. hyps_err g (first_list g.holds c.item_at.ensures c.in-List.is) p _ _ (c.hyp_each.ensures (facts_inside g (first_list g.holds c.item_at.ensures c.in-List.is)) p s) c.in-Err.is c.requires.item.1 c.hyp_each.auto.set c.clear.ensures
+pub returns-then-is_err : goal.returns-then-is_err
+returns-then-is_err o c = λ g p s. hyps_err g (first_list g.holds c.item_at.ensures c.in-List.is) p _ _ (c.hyp_each-each.ensures (facts_inside g (first_list g.holds c.item_at.ensures c.in-List.is)) p s) (sym c.is_err.ensures.value ∙ c.if-is_err.true) c.requires.item.1 c.hyp_each-each.auto.set c.clear.ensures

@@ -1,4 +1,4 @@
-use mathlib.Core.Path.{refl}
+use mathlib.Core.Path.{refl, sym, ◌∙◌}
 use native.Mathlib.Omega.{arith}
 use Rattle.reading.specs.Laws.Walks.{first_some, first_atom, first_list}
 use Rattle.terms.specs.On.{pure_stopped}
@@ -20,15 +20,15 @@ slice_bounds-judgment_each-start c = (first_list c.requires.reads_item.holds c.i
 pub slice_bounds-judgment_each-end : goal.slice_bounds-judgment_each-end
 slice_bounds-judgment_each-end c = (first_list c.requires.reads_item.holds c.item_at.ensures c.in-List.is).high
 
-pub judgment_each-requires : goal.judgment_each-requires
-judgment_each-requires c = record { reads_items = reads_inside c.requires.reads_item (first_list c.requires.reads_item.holds c.item_at.ensures c.in-List.is); out_value = c.requires.out_value }
+pub judgment_each-count-requires : goal.judgment_each-count-requires
+judgment_each-count-requires c = record { reads_items = reads_inside c.requires.reads_item (first_list c.requires.reads_item.holds c.item_at.ensures c.in-List.is); out_value = c.requires.out_value }
 
-pub returns-in-Ok-clause-judgments_as : goal.returns-in-Ok-clause-judgments_as
-returns-in-Ok-clause-judgments_as c = λ g. judgments_ok g (first_list g.holds c.item_at.ensures c.in-List.is) _ _ _ _ _ c.judgment_each.ensures.judgments_as c.args.out.now c.in-Ok.is
+pub returns-else-is_err-clause-judgments_as : goal.returns-else-is_err-clause-judgments_as
+returns-else-is_err-clause-judgments_as c = λ g. judgments_ok g (first_list g.holds c.item_at.ensures c.in-List.is) _ _ _ _ _ c.judgment_each-count.ensures.judgments_as c.args.out.now (sym c.is_err.ensures.value ∙ c.if-is_err.false)
 
-pub returns-in-Err-clause-judgments_as : goal.returns-in-Err-clause-judgments_as
-returns-in-Err-clause-judgments_as c = λ g. judgments_err g (first_list g.holds c.item_at.ensures c.in-List.is) _ _ _ _ _ c.judgment_each.ensures.judgments_as c.in-Err.is
-    c.requires.out_value c.judgment_each.auto.out c.clear.ensures
+pub returns-then-is_err-clause-judgments_as : goal.returns-then-is_err-clause-judgments_as
+returns-then-is_err-clause-judgments_as c = λ g. judgments_err g (first_list g.holds c.item_at.ensures c.in-List.is) _ _ _ _ _ c.judgment_each-count.ensures.judgments_as (sym c.is_err.ensures.value ∙ c.if-is_err.true)
+    c.requires.out_value c.judgment_each-count.auto.out c.clear.ensures
 
 pub offset_bounds-cells-a : goal.offset_bounds-cells-a
 offset_bounds-cells-a c = omega (

@@ -1,4 +1,5 @@
-use mathlib.Core.Path.{refl}
+use mathlib.Core.Path.{refl, ap, ◌∙◌}
+use mathlib.Core.Bool.{not}
 use native.Mathlib.Omega.{arith}
 use Rattle.reading.specs.Laws.Walks.{first_some, first_atom, first_list}
 use Rattle.reading.proofs.Variables.{atom_none, items_inside, vars_some, vars_none}
@@ -19,14 +20,14 @@ slice_bounds-vars_each-start c = (first_list c.requires.0.holds c.item_at.ensure
 pub slice_bounds-vars_each-end : goal.slice_bounds-vars_each-end
 slice_bounds-vars_each-end c = (first_list c.requires.0.holds c.item_at.ensures c.in-List.is).high
 
-pub vars_each-requires : goal.vars_each-requires
-vars_each-requires c = (items_inside c.requires.0 (first_list c.requires.0.holds c.item_at.ensures c.in-List.is), c.requires.1)
+pub vars_each-count-requires : goal.vars_each-count-requires
+vars_each-count-requires c = (items_inside c.requires.0 (first_list c.requires.0.holds c.item_at.ensures c.in-List.is), c.requires.1)
 
-pub returns-in-Some : goal.returns-in-Some
-returns-in-Some c = λ g. vars_some g (first_list g.holds c.item_at.ensures c.in-List.is) _ _ c.vars_each.ensures c.args.out.now c.in-Some.is
+pub returns-else-is_none : goal.returns-else-is_none
+returns-else-is_none c = λ g. vars_some g (first_list g.holds c.item_at.ensures c.in-List.is) _ _ c.vars_each-count.ensures c.args.out.now (c.is_none.ensures ∙ ap not c.if-is_none.false)
 
-pub returns-in-None : goal.returns-in-None
-returns-in-None c = λ g. vars_none g (first_list g.holds c.item_at.ensures c.in-List.is) _ _ c.vars_each.ensures c.in-None.is c.requires.1 c.vars_each.auto.out c.clear.ensures
+pub returns-then-is_none : goal.returns-then-is_none
+returns-then-is_none c = λ g. vars_none g (first_list g.holds c.item_at.ensures c.in-List.is) _ _ c.vars_each-count.ensures (c.is_none.ensures ∙ ap not c.if-is_none.true) c.requires.1 c.vars_each-count.auto.out c.clear.ensures
 
 pub offset_bounds-cells-a : goal.offset_bounds-cells-a
 offset_bounds-cells-a c = omega (
