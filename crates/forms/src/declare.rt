@@ -13,6 +13,7 @@ ghost use Rattle.state.specs.Rows.{SomeVars};
 ghost use Rattle.forms.specs.Boards.{AddsVarIn, ReadsFormIn, SameBoard, OnlyVars, OnlyDefs};
 ghost use Rattle.forms.specs.Declares.{VarAs, NamedAs, DefAs};
 
+use cells::Span;
 use kernel::atoms::marked;
 use kernel::readers::sort_named;
 use questions::{Question, Row, Text};
@@ -22,7 +23,7 @@ use sexp::items::Item;
 use sexp::{items, lex};
 use state::board::{Board, Given};
 use state::defs::{def_named, put_def};
-use state::vars::{put_var, var_named};
+use state::vars::put_var;
 use terms::store::Store;
 
 // Whether no constructor, predicate or variable has these bytes for a name.
@@ -32,11 +33,12 @@ fn is_unused(given: &Given<'_>, board: &Board<'_>, name: &[u8]) -> bool
         VarsHeld g.goals.now g.text.now b.vars.now b.n.vars S.vars →
         result ≡ is_new (constructor_named S.theory name.now) && (is_new (predicate_named S.theory name.now) && is_new (var_named S.vars name.now)) }
 {
-    let n = board.n;
-    let symbols = reader_of(given, board).symbol_table();
+    let reader = reader_of(given, board);
+    let symbols = reader.symbol_table();
+    let vars = reader.var_table();
     symbols.constructor_named(name).is_none()
         && symbols.predicate_named(name).is_none()
-        && var_named(given.goals, given.text, board.vars, n.vars, name).is_none()
+        && vars.named(name).is_none()
 }
 
 // `(var NAME SORT)`, by the items of the form; its name stands in that text.
@@ -73,7 +75,8 @@ pub fn add_var(
     if board.n.vars >= VARIABLES {
         return Err(Question::Room(Row::Variables));
     }
-    put_var(board.vars, board.n.vars, sort, Some(text), start, end);
+    let name = Span { from: start, end };
+    put_var(board.vars, board.n.vars, sort, Some(text), name);
     board.n.vars += 1;
     Ok(())
 }
@@ -135,7 +138,11 @@ pub fn add_def(
         DefAs given.now board.old board.new store.old store.new g.S (add_def g.xs g.S) result }
 {
     let new = new_def(given, board, store, cells)?;
-    put_def(board.defs, board.n.defs, new.start, new.end, new.term);
+    let name = Span {
+        from: new.start,
+        end: new.end,
+    };
+    put_def(board.defs, board.n.defs, name, new.term);
     board.n.defs += 1;
     Ok(())
 }

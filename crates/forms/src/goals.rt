@@ -11,7 +11,7 @@ ghost use Rattle.forms.specs.Boards.{AddsGoalIn, SameBoard, OnlyRows, OnlyGoals}
 ghost use Rattle.forms.specs.Goals.{GoalPlace, PlacedAs, AimedAs};
 
 use crate::stating::{Stated, read_stated};
-use cells::clear;
+use cells::{Span, clear};
 use questions::{Question, Row};
 use reading::reader::reader_of;
 use rules::{ENTRIES, GOALS};
@@ -52,11 +52,11 @@ fn place_goal(
     if room < stated.listed {
         return Err(Question::Room(Row::Entries));
     }
+    let name = Span { from: start, end };
     put_goal(
         rows,
         n.goals,
-        start,
-        end,
+        name,
         stated.judgment,
         n.entries,
         stated.listed,
