@@ -85,9 +85,6 @@ module _ {t : NameTree} {cells : List ℕ} (g : Naming t cells) where
     names_now : Named t g.first.cs
     names_now = g.kept.named a l
 
-    pub tree_now : TreeIn t
-    tree_now = names_now.tree
-
     is_met : (name : List ℕ) → IsMet t.text.now t.places.now t.many name → true ≡ any (λ (d : Case). same d.name name) g.first.cs
     is_met name m =
         let z = names_now.many in

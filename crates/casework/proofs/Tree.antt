@@ -75,9 +75,6 @@ module _ {text places links : List ℕ} {many : ℕ} (t : Tree text places links
   }
 
   module _ {cell depth : ℕ} (s : Sought text name places links many cell depth) where
-    pub sought_cell : cell < length links
-    sought_cell = omega (arith, s.near, t.room, t.even)
-
     pub sought_free : get_or links cell 0 ≡ 0 → IsFree text places links many name cell
     sought_free z = record {
       depth = depth;
