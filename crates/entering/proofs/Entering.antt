@@ -1,6 +1,6 @@
 -- A derived fact comes behind the others: from what a form found and what is put to what is answered. First any form whose rest is to add the fact, then
 -- each form. Assumes nothing.
-use mathlib.Core.Path.{◌≡◌, refl, sym, ap, ◌∙◌, subst}
+use mathlib.Core.Path.{◌≡◌, refl, sym, ap, ◌∙◌}
 use mathlib.Core.List.{List, [], ◌∷◌}
 use Prim.Native.Nat.{ℕ, ◌+◌, ◌^◌, ◌<◌, ◌≤◌}
 use native.Mathlib.Omega.{arith}
@@ -31,7 +31,7 @@ use Rattle.std.specs.Prelude.{Result, Ok as done, Err as refused}
 use Rattle.questions.specs.declared.Row.{Row}
 use Rattle.questions.specs.declared.Question.{Question}
 use Rattle.questions.specs.declared.Question.TheVariants.{Room}
-use Rattle.questions.specs.Numbers.{row_number, number_of, detail_of}
+use Rattle.questions.specs.Numbers.{row_number}
 use Rattle.state.specs.Held.{Names, RuleLists, Records, records, Recorded}
 use Rattle.state.specs.Rows.{Putting}
 use Rattle.state.specs.Members.{Under, rising_under}
@@ -49,7 +49,7 @@ use Rattle.referring.specs.declared.support.Derived.{Derived}
 use Rattle.referring.specs.Derived.{derived_fact, DerivedRead, with_instances, alone}
 use Rattle.referring.specs.Sources.{source_of}
 use Rattle.forms.specs.Halted.{Halts}
-use Rattle.forms.specs.Boards.{records_of, OnlyFacts}
+use Rattle.forms.specs.Boards.{records_of}
 use Rattle.forms.specs.Laws.Making.{Reached, reached_start, reached_went, reached_stopped, reached_halts}
 use Rattle.entering.specs.declared.derive.Way.{Way}
 use Rattle.entering.specs.declared.derive.Way.TheVariants as way

@@ -1,6 +1,6 @@
 -- The form of an inversion: a derived fact comes behind the others, and then the rows of the variables that were made. Assumes nothing.
-use Rattle.std.specs.Prelude.{◌≡◌, refl, List, [], ◌∷◌, ◌++◌, ℕ, suc, ◌-◌, ◌≤◌, length, take, drop, Result, Ok as done, Err as refused}
-use Rattle.std.proofs.Common.{sym, ap, ◌∙◌, subst, arith, length-append, length-take}
+use Rattle.std.specs.Prelude.{◌≡◌, refl, List, [], ◌∷◌, ℕ, suc, ◌-◌, ◌≤◌, length, take, drop, Result, Ok as done, Err as refused}
+use Rattle.std.proofs.Common.{sym, ap, subst, arith, length-append, length-take}
 use Rattle.rules.specs.Limits.{VARIABLES}
 use Rattle.rules.specs.Out.{then, Act}
 use Rattle.rules.specs.Sexp.{Sexps}
@@ -16,15 +16,14 @@ use Rattle.rules.specs.Laws.Shape.{invert_shape}
 use Rattle.questions.specs.declared.Row.{Row}
 use Rattle.questions.specs.declared.Question.{Question}
 use Rattle.questions.specs.declared.Question.TheVariants.{Room}
-use Rattle.terms.specs.declared.store.Mark.{Mark}
 use Rattle.terms.specs.declared.store.Store.{Store}
-use Rattle.terms.specs.Table.{made, tree}
+use Rattle.terms.specs.Table.{tree}
 use Rattle.terms.specs.Lent.{made_of}
 use Rattle.state.specs.declared.sizes.Sizes.{Sizes}
 use Rattle.state.specs.declared.board.Given.{Given}
 use Rattle.state.specs.declared.board.Board.{Board}
 use Rattle.state.specs.Held.{Records, Recorded, VarsHeld}
-use Rattle.state.specs.Used.{vars_now, facts_now}
+use Rattle.state.specs.Used.{vars_now}
 use Rattle.state.specs.Rows.{Putting}
 use Rattle.state.specs.Recording.{DerivedPut}
 use Rattle.state.specs.Parts.{recorded_vars}

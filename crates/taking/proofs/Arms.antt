@@ -3,12 +3,12 @@ use mathlib.Core.Path.{◌≡◌, refl, sym, ap, ◌∙◌, subst}
 use mathlib.Core.List.{List}
 use Prim.Native.Nat.{ℕ, ◌+◌, ◌≤◌}
 use native.Mathlib.Omega.{arith}
-use Rattle.std.specs.Prelude.{Option, Some as some, None as nothing, Result, Ok, Err}
+use Rattle.std.specs.Prelude.{Some as some, None as nothing, Result, Ok, Err}
 use Rattle.std.specs.Result.{result_and}
 use Rattle.rules.specs.Out.{Out, refuse, Act}
 use Rattle.rules.specs.Sexp.{Sexps, count}
 use Rattle.rules.specs.State.{State, Counts}
-use Rattle.rules.specs.Tags.{Tag, a_var, a_def, a_result, a_variable, a_goal, a_goal_with, GoalForm, proof_tag, goal_form}
+use Rattle.rules.specs.Tags.{Tag, a_var, a_def, a_result, a_variable, GoalForm, proof_tag, goal_form}
 use Rattle.rules.specs.Forms.{plus, add_var, add_def, add_invert, goal, result, next, perform}
 use Rattle.questions.specs.declared.Question.{Question}
 use Rattle.questions.specs.declared.Question.TheVariants.{ProofForm, GoalForm as NoGoalForm}

@@ -1,7 +1,5 @@
 -- A form that is taken or refused, from what it was when it was tried: the terms of a refused form are taken away. Assumes nothing.
 use mathlib.Core.Path.{◌≡◌, refl, sym, ap, ◌∙◌, subst}
-use mathlib.Core.List.{List}
-use Prim.Native.Nat.{ℕ}
 use native.Mathlib.Omega.{arith}
 use Rattle.rules.specs.Out.{Out, refuse}
 use Rattle.rules.specs.State.{State}
@@ -14,7 +12,7 @@ use Rattle.terms.specs.Laws.Growth.{same_then, start_same, made_same}
 use Rattle.state.specs.declared.sizes.Sizes.{Sizes}
 use Rattle.state.specs.declared.board.Given.{Given}
 use Rattle.state.specs.declared.board.Board.{Board}
-use Rattle.state.specs.Stands.{Board as Tables, Stands, tables_of}
+use Rattle.state.specs.Stands.{Board as Tables, Stands}
 use Rattle.forms.specs.Boards.{StandsIn, texts_of, theory_of}
 use Rattle.forms.specs.Moved.{store_now, LeftIn}
 use Rattle.forms.specs.Laws.Leaving.{stands_again}

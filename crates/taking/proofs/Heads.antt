@@ -1,14 +1,13 @@
 -- The tag of a form: how many items it asks for, what `tag_of` answers, and what the definition makes of a form by its tag. Assumes nothing.
 use mathlib.Core.Path.{◌≡◌, refl, sym, ap, ◌∙◌}
-use Prim.Native.Nat.{ℕ, ◌+◌, ◌-◌, ◌≤◌, ◌<◌}
+use Prim.Native.Nat.{ℕ, ◌≤◌, ◌<◌}
 use mathlib.Core.Bool.{Bool, true, false, ◌&&◌}
 use Rattle.std.specs.Prelude.{Option, Some as some, None as nothing}
 use mathlib.Core.List.{List, [], ◌∷◌, append-nil}
 use native.Mathlib.Omega.{arith}
 use lib.Dec.{leb}
-use lib.ListN.{length, take, drop}
+use lib.ListN.{length}
 use borrow.Author.Tests.{leb-true}
-use Rattle.rules.specs.Lex.{letters}
 use Rattle.rules.specs.Out.{refuse, then, found}
 use Rattle.rules.specs.Sexp.{Sexp, Sexps, atom, list, nil, cons, count, item, name, items}
 use Rattle.rules.specs.Tags.{Tag, a_var, a_def, a_step, a_hyp, a_rule_hyp, an_induct, an_induct_with, an_apply, an_invert, a_result, GoalForm, a_variable, a_goal, a_goal_with, Row, proof_tags, goal_tags, within, fits, tag_in, proof_tag, goal_form}
@@ -18,8 +17,8 @@ use Rattle.rules.specs.Forms.{goal, take_goal, perform, take_form}
 use Rattle.sexp.specs.Never.{never}
 use Rattle.sexp.specs.Encode.{encode}
 use Rattle.sexp.specs.Items.{Holds, item_at}
-use Rattle.sexp.specs.ItemLaws.{More, some_cells}
-use Rattle.sexp.specs.WalkLaws.{ListIs, Walk, walk_start, walk_more, walk_over, walk_atom, walk_list, Span, span}
+use Rattle.sexp.specs.ItemLaws.{some_cells}
+use Rattle.sexp.specs.WalkLaws.{ListIs, walk_start, walk_atom, walk_list}
 use Rattle.sexp.specs.TagTable.{goal_answer, tag_answer}
 use Rattle.sexp.specs.declared.items.Item.{Item}
 use Rattle.sexp.specs.declared.items.Item.TheVariants.{Atom, List as Part}

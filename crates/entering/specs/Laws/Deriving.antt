@@ -1,19 +1,17 @@
 -- Forms of derived facts, and all tables at once: what they are given, and what stands afterwards. Assumes nothing.
-use Rattle.std.specs.Prelude.{◌≡◌, refl, List, ℕ, ◌+◌, ◌≤◌, Result, Ok, Err}
+use Rattle.std.specs.Prelude.{refl, List, ℕ, ◌≤◌, Result, Ok, Err}
 use Rattle.std.proofs.Common.{sym, subst}
 use Rattle.rules.specs.Out.{Out}
 use Rattle.rules.specs.Sexp.{Sexps, count}
 use Rattle.rules.specs.State.{State}
 use Rattle.rules.specs.Forms.{with_made, plus}
 use Rattle.questions.specs.declared.Question.{Question}
-use Rattle.questions.specs.Numbers.{number_of, detail_of}
 use Rattle.sexp.specs.Items.{Holds}
 use Rattle.terms.specs.declared.store.Store.{Store}
 use Rattle.terms.specs.Table.{made}
 use Rattle.state.specs.declared.sizes.Sizes.{Sizes}
 use Rattle.state.specs.declared.board.Given.{Given}
 use Rattle.state.specs.declared.board.Board.{Board as Lent}
-use Rattle.state.specs.Used.{facts_now}
 use Rattle.state.specs.Recording.{with_fact}
 use Rattle.state.specs.Stands.{Board, board, Stands}
 use Rattle.state.specs.Updates.{stands_derived}

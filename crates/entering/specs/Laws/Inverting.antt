@@ -1,9 +1,9 @@
 -- The form of an inversion, and all tables at once: what it is given, and what stands afterwards. Assumes nothing.
-use Rattle.std.specs.Prelude.{◌≡◌, refl, List, ℕ, ◌+◌, ◌≤◌, length, Result, Ok, Err}
-use Rattle.std.proofs.Common.{sym, ap, ◌∙◌, subst}
+use Rattle.std.specs.Prelude.{refl, List, ℕ, ◌≤◌, length, Ok, Err}
+use Rattle.std.proofs.Common.{sym, ap, subst}
 use Rattle.rules.specs.Out.{Out}
 use Rattle.rules.specs.Sexp.{Sexps, count}
-use Rattle.rules.specs.State.{State, Counts as Tally}
+use Rattle.rules.specs.State.{State}
 use Rattle.rules.specs.Forms.{with_made, with_vars, one_inversion, plus}
 use Rattle.rules.proofs.Laws.Below.{MadeBelow}
 use Rattle.rules.proofs.Laws.Bounded.{BoundedState}
@@ -14,7 +14,6 @@ use Rattle.terms.specs.Table.{made}
 use Rattle.state.specs.declared.sizes.Sizes.{Sizes}
 use Rattle.state.specs.declared.board.Given.{Given}
 use Rattle.state.specs.declared.board.Board.{Board as Lent}
-use Rattle.state.specs.Used.{vars_now, facts_now}
 use Rattle.state.specs.Recording.{with_fact}
 use Rattle.state.specs.Stands.{Board, board, Stands}
 use Rattle.state.specs.Updates.{stands_vars, stands_derived}

@@ -1,6 +1,5 @@
-use mathlib.Core.Path.{refl}
 use Rattle.rules.specs.Forms.{add_hyp, add_rule_hyp}
-use Rattle.sexp.specs.declared.tags.Tag.TheVariants.{Var, Def, Step, Hyp, RuleHyp, Induct, InductWith, Apply, Invert, Outcome}
+use Rattle.sexp.specs.declared.tags.Tag.TheVariants.{Var, Def, Hyp, RuleHyp, Invert, Outcome}
 use Rattle.forms.specs.Laws.Declared.{gives_form, gives_var}
 use Rattle.forms.specs.Laws.Assumed.{gives_fact}
 use Rattle.forms.specs.Laws.Results.{stands_result}
