@@ -7,6 +7,8 @@ use native.Mathlib.Decide.{ℕ_discrete}
 use native.Mathlib.Numerals.{add-one}
 use lib.ListN.{length, get_or, set, take, drop, length-set, length-drop}
 use lib.Seq.{get_or-set_same, get_or-set_other, get_or-drop, take-suc, drop-cons, length-take-le}
+use borrow.Rule.Slice.PartMut.{put_mid, mid_of, post_of, put_same}
+use Rattle.std.proofs.lemmas.List.{set-append_left}
 use Rattle.rules.specs.Limits.{SYMBOLS, ARGUMENTS, TERMS, NODE}
 use Rattle.rules.specs.Out.{Out, ok}
 use Rattle.rules.specs.Tree.{Tree, Trees, var, app, more, size}
@@ -68,6 +70,15 @@ run_snoc w a k h =
     let l = length-drop a w in
     ap (λ (j : ℕ). take j (drop a w)) (add-one k) ∙ take-suc (drop a w) k 0 (omega arith) ∙ ap (λ (x : ℕ). run w a k ++ (x ∷ [])) (get_or-drop a w k 0)
 
+-- a node's arguments, lent as a part of it
+pub part_long : (w : List ℕ) (k : ℕ) → length (put_mid 1 k w (mid_of 1 k w)) ≡ length w
+part_long w k = ap (λ (l : List ℕ). length l) (put_same 1 k w)
+
+part_set : (x : ℕ) (xs ys : List ℕ) (k i n : ℕ) → i < length ys → put_mid 1 k (x ∷ xs) (set ys i n) ≡ set (put_mid 1 k (x ∷ xs) ys) (1 + i) n
+part_set x xs ys k i n l =
+    let e : suc i ≡ 1 + i = omega arith in
+    ap (λ (l : List ℕ). x ∷ l) (sym (set-append_left ys (post_of 1 k (x ∷ xs)) i n l)) ∙ ap (λ (j : ℕ). set (put_mid 1 k (x ∷ xs) ys) j n) e
+
 -- k arguments are built, and their numbers stand in the node w behind its head c
 pub record Building (S P I W : List ℕ) (m : Mark) (B : List ℕ) (at c count : ℕ) (J X w : List ℕ) (new : Mark) (place k : ℕ) : Type 0 where
   pub asked : Buildable S P I W m B at
@@ -80,6 +91,10 @@ pub record Building (S P I W : List ℕ) (m : Mark) (B : List ℕ) (at c count :
   pub first : get_or w 0 0 ≡ c
   pub args : (j : ℕ) → j < k → get_or w (1 + j) 0 < new.terms
   pub going : (p : Tree) → Stands S P at p → Remaining S P (bound_of (made I W m) B) (build p (bound_of (made I W m) B) (made I W m)) (at + size p) c count (made J X new) place k (run w 1 k)
+
+pub building_few : (S P I W : List ℕ) (m : Mark) (B : List ℕ) (at : ℕ) → Buildable S P I W m B at → get_or P at 0 < SYMBOLS
+    → (count : ℕ) → count ≡ arity S (get_or P at 0) → count ≤ ARGUMENTS
+building_few S P I W m B at q l count f = let a = stands_app S P at q.reads.tree q.reads.stands l in omega (arith, a.count, a.few)
 
 pub building_begins : (S P I W : List ℕ) (m : Mark) (B : List ℕ) (at : ℕ) → Buildable S P I W m B at → get_or P at 0 < SYMBOLS
     → (count : ℕ) → count ≡ arity S (get_or P at 0) → (w : List ℕ) → length w ≡ NODE → get_or w 0 0 ≡ get_or P at 0 → Building S P I W m B at (get_or P at 0) count I W w m (at + 1) 0
@@ -263,3 +278,12 @@ module _ (S P I W : List ℕ) (m : Mark) (B : List ℕ) (at c count : ℕ) (J X 
 
       pub building_full : (row : Row) → Refused Tree J X L Y new kept (row_number row) k' → BuiltAt S P I W L Y m k' B at (Err (Room row))
       building_full row t p st = record { says = record { grown = grown_trans q.grown t.grown; makes = (to_keep p st).0 ∙ t.makes } }
+
+-- The same where the arguments are lent as a part of the node
+module _ (S P I W : List ℕ) (m : Mark) (B : List ℕ) (at c count : ℕ) (J X : List ℕ) (x : ℕ) (xs ys : List ℕ) (n : ℕ) (new : Mark) (place k : ℕ)
+    (q : Building S P I W m B at c count J X (put_mid 1 n (x ∷ xs) ys) new place k) (h : k < count) (l : k < length ys) where
+  pub filling_on : (L Y : List ℕ) (k' : Mark) (r : Built) → BuiltAt S P J X L Y new k' B place (Ok r)
+      → Building S P I W m B at c count L Y (put_mid 1 n (x ∷ xs) (set ys k r.term)) k' r.end (k + 1)
+  filling_on L Y k' r f =
+      subst (λ (w : List ℕ). Building S P I W m B at c count L Y w k' r.end (k + 1)) (sym (part_set x xs ys n k r.term l))
+      (building_on S P I W m B at c count J X (put_mid 1 n (x ∷ xs) ys) new place k q h L Y k' r f)

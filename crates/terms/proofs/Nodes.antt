@@ -18,7 +18,7 @@ use Rattle.terms.specs.Table.{CHAINS, FLAGS, HEADS, INDEX, BUCKETS, args_of, tre
 use Rattle.terms.specs.Table.{settled}
 use Rattle.terms.specs.Node.{Linked, Held, HeldIn, HeadIs, OpenIs}
 use Rattle.terms.specs.Laws.Tables.{tree_app, tree_var, end_within}
-use Rattle.terms.specs.Laws.Terms.{flag_open, flag_closed, flag_in, start_in, head_tree}
+use Rattle.terms.specs.Laws.Terms.{flag_in, start_in, head_tree}
 use Rattle.terms.specs.Laws.Runs.{run_length}
 
 -- Flags ----------------------------------------------------------------------------------------------------------------------------
@@ -60,8 +60,8 @@ module _ (I W : List ℕ) (m : Mark) (g : Good I W m) (w : List ℕ) (s : Shaped
         let a = arg_in m.terms (1 + i) s small (omega arith) (omega arith) in
         omega arith
 
-    pub flagging_in : FLAGS + get_or args i 0 < length I
-    flagging_in = let a = arg_below in let b = g.room in let d = g.index in omega arith
+    pub flagging_held : HeldIn I (get_or args i 0)
+    flagging_held = record { words = W; held = record { mark = m; good = g; there = arg_below } }
 
     module _ (q : Flagging (made I W m) w args i) where
       step : are_open (args_of (made I W m) (drop i args))
@@ -69,18 +69,20 @@ module _ (I W : List ℕ) (m : Mark) (g : Good I W m) (w : List ℕ) (s : Shaped
       unfolding args_of is_open
       step = ap (λ (l : List ℕ). are_open (args_of (made I W m) l)) (drop-cons args i 0 h)
 
-      pub flagging_hit : (get_or I (FLAGS + get_or args i 0) 0 ≡ 0 → ⊥) → true ≡ is_open (tree_at (made I W m) w)
-      flagging_hit n =
-          let e = flag_open (is_open (get_or (made I W m) (get_or args i 0) (var 0))) _ (g.flags (get_or args i 0) arg_below) n in
-          sym (q.left ∙ step ∙ ap (λ (b : Bool). elim b [ true ↦ true | false ↦ are_open (args_of (made I W m) (drop (suc i) args)) ]) e)
+      module _ {r : Bool} (o : OpenIs I (get_or args i 0) r) where
+        open_arg : r ≡ is_open (get_or (made I W m) (get_or args i 0) (var 0))
+        open_arg = o W m g arg_below
 
-      pub flagging_on : get_or I (FLAGS + get_or args i 0) 0 ≡ 0 → Flagging (made I W m) w args (i + 1)
-      flagging_on z =
-          let e = flag_closed (is_open (get_or (made I W m) (get_or args i 0) (var 0))) _ (g.flags (get_or args i 0) arg_below) z in
-          record {
-            left = q.left ∙ step ∙ ap (λ (b : Bool). elim b [ true ↦ true | false ↦ are_open (args_of (made I W m) (drop (suc i) args)) ]) e
-                ∙ ap (λ (k : ℕ). are_open (args_of (made I W m) (drop k args))) (sym (add-one i));
-          }
+        pub flagging_hit : r ≡ true → true ≡ is_open (tree_at (made I W m) w)
+        flagging_hit e =
+            sym (q.left ∙ step ∙ ap (λ (b : Bool). elim b [ true ↦ true | false ↦ are_open (args_of (made I W m) (drop (suc i) args)) ]) (sym open_arg ∙ e))
+
+        pub flagging_on : r ≡ false → Flagging (made I W m) w args (i + 1)
+        flagging_on e =
+            record {
+              left = q.left ∙ step ∙ ap (λ (b : Bool). elim b [ true ↦ true | false ↦ are_open (args_of (made I W m) (drop (suc i) args)) ]) (sym open_arg ∙ e)
+                  ∙ ap (λ (k : ℕ). are_open (args_of (made I W m) (drop k args))) (sym (add-one i));
+            }
 
 pub flagging_ends : (M : Made) (w args : List ℕ) (i : ℕ) → Flagging M w args i → length args ≤ i → false ≡ is_open (tree_at M w)
 unfolding args_of is_open

@@ -1,5 +1,5 @@
 -- Going over patterns word by word: how many are left. Assumes nothing.
-use mathlib.Core.Path.{◌≡◌, refl, sym, ap, subst}
+use mathlib.Core.Path.{◌≡◌, sym, ap, subst}
 use mathlib.Core.Bool.{Bool, true, false}
 use mathlib.Core.List.{List}
 use Prim.Native.Nat.{ℕ, suc, ◌+◌, ◌-◌, ◌≤◌, ◌<◌}
@@ -34,9 +34,6 @@ pub record Behind (S P : List ℕ) (behind place left : ℕ) : Type 0 where
 pub record Skipping (S P : List ℕ) (at n place left : ℕ) : Type 0 where
   pub asked : Skippable S P at n
   pub going : (ps : Trees) → Standing S P at ps → count_trees ps ≡ n → Behind S P (at + sizes ps) place left
-
-pub skipping_begins : (S P : List ℕ) (at n : ℕ) → Skippable S P at n → Skipping S P at n at n
-skipping_begins S P at n q = record { asked = q; going = λ ps st c. record { patterns = ps; stands = st; count = c; ends = refl } }
 
 module _ (S P : List ℕ) (behind place left : ℕ) (q : Behind S P behind place left) (n : left ≡ 0 → ⊥) where
   inside : (ps : Trees) → Standing S P place ps → count_trees ps ≡ left → (place < length P) × (place + left ≤ length P)

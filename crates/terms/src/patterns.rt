@@ -1,5 +1,6 @@
 // Rules' patterns over the store (specs/Patterns.antt says how words stand for a pattern and cells for bindings). A pattern is read in
-// prefix notation from a place on, and each function finds the place behind it on the way.
+// prefix notation from a place on, and each function finds the place behind it on the way. A cell of the bindings is 0 for none, or a
+// number with 1 added: they are cells of lent tables.
 ghost use Rattle.std.specs.Prelude.{◌≡◌, ◌*◌, ◌<◌, length};
 ghost use Rattle.rules.specs.Limits.{SYMBOLS};
 ghost use Rattle.terms.specs.Lent.{SameTables};
@@ -132,7 +133,8 @@ impl Patterns<'_> {
         place
     }
 
-    // Patterns from `at` on, a rule's premises, against as many terms: whether all match; if not, the cells are as they were.
+    // Patterns from `at` on, a rule's premises, against as many terms: whether all match; if not, the cells are as they were. Of the two,
+    // `matches` answers a place, and this whether.
     pub fn match_all(&self, terms: &Terms<'_>, bound: &mut [u32], at: usize, ids: &[u32]) -> bool
         requires { AllMatchable self.now.symbols.now self.now.words.now terms.now.index.now terms.now.words.now terms.now.mark bound.old at ids.now }
         ensures { MatchedAll self.now.symbols.now self.now.words.now terms.now.index.now terms.now.words.now terms.now.mark bound.old bound.new at ids.now result }
@@ -167,9 +169,9 @@ impl Patterns<'_> {
         let mut node = [0u32; NODE];
         node[0] = head as u32;
         let mut place = at + 1;
-        for k in 0..count {
+        for cell in node[1..=count].iter_mut() {
             let arg = self.build(store, bound, place)?;
-            node[1 + k] = arg.term as u32;
+            *cell = arg.term as u32;
             place = arg.end;
         }
         let len = count + 1;

@@ -1,5 +1,6 @@
 // A term under a substitution, with a memo of the results: recursion on falling term numbers, so that a shared subterm is visited once. A
-// term without variables is its own result.
+// term without variables is its own result. A cell of the map or the memo is 0 for none, or a number with 1 added: they are cells of lent
+// tables.
 ghost use Rattle.std.specs.Prelude.{◌≡◌, ◌++◌, ◌-◌, ◌≤◌, length, drop};
 ghost use Rattle.rules.specs.Limits.{NODE};
 ghost use Rattle.rules.specs.Store.{keep as keep_tree};
@@ -22,7 +23,8 @@ fn image_of(map: &[u32], v: usize, id: usize) -> usize
     if bound == 0 { id } else { bound - 1 }
 }
 
-// The node that stands from `start` to `end`, with its arguments as the memo has them.
+// The node that stands from `start` to `end`, with its arguments as the memo has them. The cells go by number, since behind a zip with
+// `iter_mut` nothing is known of what was written.
 fn gather(words: &[u32], memo: &[u32], start: usize, end: usize, node: &mut [u32])
     requires rebuildable { Rebuildable words.now memo.now start end }
     requires in_bounds { NODE ≤ length node.old }

@@ -1,5 +1,6 @@
 // Sets of numbers as words of 64 bits: VARIABLEWORDS of them for variables, FACTWORDS for facts, RULEWORDS for rules, TERMWORDS for
-// terms, which are the most. A contract speaks of the set (`holds`), never of a bit. A set is emptied by `cells::clear`.
+// terms, which are the most. A contract speaks of the set (`holds`), never of a bit. A set is emptied by `cells::clear`. No set of the
+// library holds them: there is no heap, and C lends the tables.
 ghost use Rattle.std.specs.Prelude.{◌≡◌, ◌+◌, ◌*◌, ◌≤◌, ◌<◌, eqb, length};
 ghost use Rattle.std.proofs.lemmas.List.Edits.{sets};
 ghost use Rattle.rules.specs.Limits.{TERMS, TERMWORDS};
@@ -23,7 +24,8 @@ pub fn has(set: &[u64], v: usize) -> bool
     (w >> (v % 64)) & 1 == 1
 }
 
-// The members of the other join the set.
+// The members of the other join the set. This and `minus_from` differ in the operation: one with a closure is no plainer. The words go by
+// number, since behind a zip with `iter_mut` nothing is known of what was written.
 pub fn union_into(set: &mut [u64], other: &[u64])
     requires { length set.old ≡ length other.now }
     ensures { holds set.new ≡ union (holds set.old) (holds other.now) }
@@ -43,7 +45,7 @@ pub fn minus_from(set: &mut [u64], other: &[u64])
     }
 }
 
-// The lowest of a that is not in b; none where all of a is in b.
+// The lowest of a that is not in b; none where all of a is in b. The answer wants the index, so that a zip is no plainer.
 pub fn lowest_outside(a: &[u64], b: &[u64]) -> Option<usize>
     requires { (length a.now ≡ length b.now) × (length a.now ≤ TERMWORDS) }
     ensures { counted_from_1 result ≡ least (64 * length a.now) (minus (holds a.now) (holds b.now)) }
@@ -57,7 +59,7 @@ pub fn lowest_outside(a: &[u64], b: &[u64]) -> Option<usize>
     None
 }
 
-// Whether all of a is in b.
+// Whether all of a is in b: public and promised; nothing here calls it.
 pub fn subset(a: &[u64], b: &[u64]) -> bool
     requires { (length a.now ≡ length b.now) × (length a.now ≤ TERMWORDS) }
     ensures { result ≡ eqb (least (64 * length a.now) (minus (holds a.now) (holds b.now))) 0 }

@@ -1,5 +1,6 @@
 // The store: the distinct terms made so far, numbered in the order made, in two tables (specs/Table.antt says how they stand for trees).
-// A node is gathered by the caller, looked up by its bucket, and only a new one is written, behind the words that are used.
+// A node is gathered by the caller, looked up by its bucket, and only a new one is written, behind the words that are used. No map of the
+// library keeps them: there is no heap, and C lends the tables. A cell is 0 for none, or a number with 1 added.
 ghost use Rattle.std.specs.Prelude.{◌≡◌, ◌-◌, ◌≤◌, ◌<◌, length};
 ghost use Rattle.std.specs.Bool.{Decides};
 ghost use Rattle.rules.specs.Limits.{TERMS, VARIABLES, WORDS};
@@ -138,8 +139,9 @@ impl Terms<'_> {
         if SYMBOLS <= node[0] as usize {
             return true;
         }
+        // no `any`: the proof that its closure may call `is_open` does not close
         for arg in &node[1..] {
-            if self.index[FLAGS + *arg as usize] != 0 {
+            if self.is_open(*arg as usize) {
                 return true;
             }
         }

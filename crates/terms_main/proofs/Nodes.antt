@@ -14,9 +14,6 @@ args_below n [] x l = elim x [ ]
 args_below n (h ∷ []) (is_var p q) l = absurd (omega (arith, p, l))
 args_below n (h ∷ xs) (is_app p q) l = subst (Below n) (sym (take_all (length (h ∷ xs) - 1) xs (omega arith))) q
 
-pub leaf_node : (n h : ℕ) → h < SYMBOLS → Node n (h ∷ [])
-leaf_node n h b = record { narrow = omega arith; shaped = is_app {xs = []} b (λ k l. absurd (omega (arith, l))) }
-
 module _ (n h a b : ℕ) (p : h < SYMBOLS) (l : a < n) (r : b < n) where
   pub pair_node : Node n (h ∷ a ∷ b ∷ [])
   pair_node = record { narrow = omega arith; shaped = is_app {xs = a ∷ b ∷ []} p args }

@@ -1,5 +1,6 @@
 use Rattle.std.proofs.Common.{arith}
-use Rattle.terms_main.proofs.Nodes.{leaf_node, pair_node}
+use Rattle.terms.specs.Laws.Variable.{leaf_node}
+use Rattle.terms_main.proofs.Nodes.{pair_node}
 use Rattle.terms_main.proofs.+read.Goals as goal
 
 pub keep-kept-requires-clause-node : goal.keep-kept-requires-clause-node
