@@ -1,7 +1,7 @@
 -- Words of patterns behind those that are there: one more, and what the readers of atoms and heads answer. Assumes nothing.
 use mathlib.Core.Path.{◌≡◌, refl, sym, ap, ◌∙◌, subst}
 use Prim.Native.Nat.{ℕ, suc, ◌+◌, ◌-◌, ◌<◌, ◌≤◌}
-use mathlib.Core.Bool.{true, false}
+use mathlib.Core.Bool.{Bool, true, false}
 use Rattle.std.specs.Prelude.{Some as some, None as nothing, Option, Result}
 use mathlib.Core.List.{List, [], ◌∷◌, ◌++◌}
 use native.Mathlib.Omega.{arith}
@@ -16,14 +16,11 @@ use Rattle.rules.specs.Lex.{letters}
 use Rattle.rules.specs.Out.{ok, refuse, then}
 use Rattle.rules.specs.Sexp.{atom, marked}
 use Rattle.rules.specs.Tree.{var, app, none}
-use Rattle.rules.specs.Theory.{Theory, Symbol, no_symbol, inputs, output, constructor_named}
+use Rattle.rules.specs.Theory.{Theory, Symbol, no_symbol, inputs, output, constructor_named, predicate_named}
 use Rattle.rules.specs.TheoryTables.{prefix}
 use Rattle.rules.specs.Declare.{Reading, word, met_or_new, variable, head, pattern}
 use Rattle.rules.specs.Laws.PatternSteps.{var_named, worded, word_full, word_more, variable_short, variable_asks, head_unknown, head_sort, head_count, head_asks, pattern_marked, pattern_atom}
 use Rattle.sexp.specs.AtomText.{name_from, atom_span}
-use Rattle.kernel.specs.declared.names.Kind.{Kind}
-use Rattle.kernel.specs.declared.names.Kind.TheVariants.{Constructor}
-use Rattle.kernel.specs.Named.{called, of_kind, SymbolRows}
 use Rattle.kernel.specs.Held.{SymbolsHeld}
 use Rattle.kernel.specs.Reading.{Meeting, Met, ReadSoFar, AtomReading, Written, Stopped, PatternRead, Head}
 use Rattle.questions.specs.declared.Question.{Question}
@@ -31,8 +28,7 @@ use Rattle.questions.specs.Numbers.{number_of, detail_of}
 use Rattle.questions.specs.declared.Row.{Row}
 use Rattle.questions.specs.declared.Row.TheVariants.{PatternWords}
 use Rattle.questions.specs.declared.Question.TheVariants.{Room}
-use Rattle.sexp.specs.FoundLaws.{found_at, found_missing}
-use Rattle.kernel.specs.SignatureRows.{symbols_rows, symbols_few}
+use Rattle.kernel.specs.SignatureRows.{symbols_few}
 use Rattle.kernel.specs.Readers.{KnownSymbol}
 use Rattle.kernel.specs.Entries.{known_symbol}
 
@@ -99,43 +95,34 @@ module _ (text : List ℕ) (start end sort : ℕ) (e : end ≡ start + length (l
 
 -- The answers of `constructor` ---------------------------------------------------------------------------------------------------
 
+pub found_symbol : (p : Symbol → Bool) (ss : List Symbol) (c : ℕ) → first p ss 0 ≡ some c → c < length ss
+found_symbol p ss c e = let f = first_some p ss 0 c no_symbol e in omega (arith, f.is, f.inside)
+
 -- what a reader of the symbols' table says of symbol c, whatever theory the table holds
 abbrev pub Reads : (Theory → ℕ → ℕ) → List ℕ → ℕ → ℕ → Type 0
 Reads says symbols c r = (T : Theory) (text inputs : List ℕ) (count : ℕ) → SymbolsHeld text symbols inputs count T.symbols → c < count → r ≡ says T c
 
-module _ (text : List ℕ) (start end sort arity : ℕ) (e : end ≡ start + length (letters (drop start text))) (l : start < length text) {symbols ins : List ℕ} {count : ℕ} (T : Theory) (R : Reading)
-    (h : SymbolsHeld text symbols ins count T.symbols) (r : Option ℕ)
-    (a : (ss : List Symbol) → SymbolRows text symbols count ss → r ≡ (first (called Constructor (take (end - start) (drop start text))) ss 0)) where
-  named_so : constructor_named T (letters (drop start text)) ≡ first (called Constructor (take (end - start) (drop start text))) T.symbols 0
-  unfolding constructor_named of_kind
-  named_so = ap (λ z. first (called Constructor z) T.symbols 0) (sym (atom_span text start end l e).part)
-
-  pub head_missing : {P : List ℕ} {used : ℕ} → r ≡ nothing → Stopped P P used (head T sort arity (letters (drop start text)) R) 11 0
-  head_missing b =
-      record {
-        now = R;
-        is = head_unknown R T sort arity (letters (drop start text)) (named_so ∙ found_missing (first (called Constructor (take (end - start) (drop start text))) T.symbols 0) r (a T.symbols (symbols_rows h)) b);
-        words = refl;
-        long = refl;
-      }
+module _ (name : List ℕ) (sort arity : ℕ) {text symbols ins : List ℕ} {count : ℕ} (T : Theory) (R : Reading) (h : SymbolsHeld text symbols ins count T.symbols) (r : Option ℕ)
+    (a : r ≡ constructor_named T name) where
+  pub head_missing : {P : List ℕ} {used : ℕ} → r ≡ nothing → Stopped P P used (head T sort arity name R) 11 0
+  head_missing b = record { now = R; is = head_unknown R T sort arity name (sym a ∙ b); words = refl; long = refl }
 
   module _ (c : ℕ) (b : r ≡ some c) where
-    known_so : constructor_named T (letters (drop start text)) ≡ some c
-    known_so = named_so ∙ found_at (first (called Constructor (take (end - start) (drop start text))) T.symbols 0) r c (a T.symbols (symbols_rows h)) b
+    known_so : constructor_named T name ≡ some c
+    known_so = sym a ∙ b
 
     declared : c < length T.symbols
-    declared =
-        let f = first_some (called Constructor (take (end - start) (drop start text))) T.symbols 0 c no_symbol (sym named_so ∙ known_so) in
-        omega (arith, f.is, f.inside)
+    unfolding constructor_named
+    declared = found_symbol _ T.symbols c known_so
 
     -- the output that was read
     module _ (had : ℕ) (o : Reads (λ T. output T) symbols c had) where
       output_is : had ≡ output T c
       output_is = o T text ins count h (omega (arith, declared, h.many))
 
-      pub head_wrong_sort : {P : List ℕ} {used : ℕ} → (had ≡ sort → ⊥) → Stopped P P used (head T sort arity (letters (drop start text)) R) 12 0
+      pub head_wrong_sort : {P : List ℕ} {used : ℕ} → (had ≡ sort → ⊥) → Stopped P P used (head T sort arity name R) 12 0
       head_wrong_sort f =
-          record { now = R; is = head_sort R T sort arity (letters (drop start text)) c known_so (λ z. f (output_is ∙ z)); words = refl; long = refl }
+          record { now = R; is = head_sort R T sort arity name c known_so (λ z. f (output_is ∙ z)); words = refl; long = refl }
 
       -- and how many arguments there are
       module _ (f : had ≡ sort) (many : ℕ) (n : Reads (λ T c. length (inputs T c)) symbols c many) where
@@ -145,16 +132,16 @@ module _ (text : List ℕ) (start end sort arity : ℕ) (e : end ≡ start + len
         arity_is : many ≡ length (inputs T c)
         arity_is = n T text ins count h (omega (arith, declared, h.many))
 
-        pub head_wrong_count : {P : List ℕ} {used : ℕ} → (many ≡ arity → ⊥) → Stopped P P used (head T sort arity (letters (drop start text)) R) 12 0
+        pub head_wrong_count : {P : List ℕ} {used : ℕ} → (many ≡ arity → ⊥) → Stopped P P used (head T sort arity name R) 12 0
         head_wrong_count g =
-            record { now = R; is = head_count R T sort arity (letters (drop start text)) c known_so sort_so (λ z. g (arity_is ∙ z)); words = refl; long = refl }
+            record { now = R; is = head_count R T sort arity name c known_so sort_so (λ z. g (arity_is ∙ z)); words = refl; long = refl }
 
         module _ (g : many ≡ arity) {used : ℕ} (P Q : List ℕ) (w : R.words ≡ used) where
-          head_so : head T sort arity (letters (drop start text)) R ≡ then (word R) (λ u W. ok c W)
-          head_so = head_asks R T sort arity (letters (drop start text)) c known_so sort_so (sym arity_is ∙ g)
+          head_so : head T sort arity name R ≡ then (word R) (λ u W. ok c W)
+          head_so = head_asks R T sort arity name c known_so sort_so (sym arity_is ∙ g)
 
           pub head_written : {next : ℕ} → length P ≡ PATTERNS → (used < PATTERNS) × (Q ≡ set P used c) × (next ≡ used + 1) →
-              Head P Q used T R arity (head T sort arity (letters (drop start text)) R) c next
+              Head P Q used T R arity (head T sort arity name R) c next
           unfolding then
           head_written m k =
               record {
@@ -168,7 +155,7 @@ module _ (text : List ℕ) (start end sort arity : ℕ) (e : end ≡ start + len
               }
 
           pub head_full : {e : Row} {next : ℕ} → (PATTERNS ≤ used) × (Q ≡ P) × (next ≡ used) × (e ≡ PatternWords) →
-              Stopped P Q used (head T sort arity (letters (drop start text)) R) (number_of (Room e)) (detail_of (Room e))
+              Stopped P Q used (head T sort arity name R) (number_of (Room e)) (detail_of (Room e))
           unfolding then
           head_full k =
               record {
@@ -178,12 +165,18 @@ module _ (text : List ℕ) (start end sort arity : ℕ) (e : end ≡ start + len
                 long = ap length k.1;
               }
 
--- a symbol that was found is there, and its number is small
-pub head_known : {text symbols ins : List ℕ} {count : ℕ} {ss : List Symbol} (name : List ℕ) (b : Kind) (r : Option ℕ) (c : ℕ) → SymbolsHeld text symbols ins count ss →
-    ((ss : List Symbol) → SymbolRows text symbols count ss → r ≡ (first (called b name) ss 0)) → r ≡ some c → KnownSymbol symbols c × (c < SYMBOLS)
-head_known {ss = ss} name b r c h a e =
-    let f = first_some (called b name) ss 0 c no_symbol (found_at (first (called b name) ss 0) r c (a ss (symbols_rows h)) e) in
-    (known_symbol h (omega (arith, f.is, f.inside, h.many)), omega (arith, f.is, f.inside, h.many, symbols_few h))
+-- a symbol that was found is there, and the number of such a symbol is small
+module _ {text symbols ins : List ℕ} {count : ℕ} (T : Theory) (name : List ℕ) (r : Option ℕ) (c : ℕ) (h : SymbolsHeld text symbols ins count T.symbols) (e : r ≡ some c) where
+  pub constructor_known : r ≡ constructor_named T name → KnownSymbol symbols c
+  unfolding constructor_named
+  constructor_known a = known_symbol h (omega (arith, found_symbol _ T.symbols c (sym a ∙ e), h.many))
+
+  pub predicate_known : r ≡ predicate_named T name → KnownSymbol symbols c
+  unfolding predicate_named
+  predicate_known a = known_symbol h (omega (arith, found_symbol _ T.symbols c (sym a ∙ e), h.many))
+
+pub known_small : {symbols : List ℕ} {c : ℕ} → KnownSymbol symbols c → c < SYMBOLS
+known_small k = omega (arith, k.known, symbols_few k.held.1)
 
 -- a symbol takes few arguments
 pub arity_few : {symbols : List ℕ} {c many : ℕ} → KnownSymbol symbols c → Reads (λ T c. length (inputs T c)) symbols c many → many ≤ ARGUMENTS

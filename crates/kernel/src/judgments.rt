@@ -7,12 +7,11 @@ ghost use Rattle.rules.specs.TheoryTables.{prefix, prefixes};
 ghost use Rattle.sexp.specs.Items.{Holds};
 ghost use Rattle.kernel.specs.Reading.{SameTables, SameVars, Knows, ReadTo, PartRead, ListOpened, OpeningAt, PartAt, Placed, ArgumentsAt};
 
-use crate::names::Kind;
 use crate::patterns::RuleReader;
 use crate::readers;
 use questions::Question;
+use sexp::items;
 use sexp::items::Item;
-use sexp::{items, lex};
 
 impl RuleReader<'_, '_> {
     // The constructor that a list of a term begins with, and its word; a list of one is refused before its name is looked up.
@@ -24,17 +23,14 @@ impl RuleReader<'_, '_> {
             Holds self.old.known.text.now cells.now zs →
             ListOpened self.old self.new cells.now T R zs (pattern T (list zs) sort R) result }
     {
-        if cells.is_empty() {
-            return Err(Question::Declared);
-        }
-        let Item::Atom(start) = items::item_at(cells, 0) else {
+        let Some(name) = items::head(self.known.text, cells) else {
             return Err(Question::Declared);
         };
         let many = items::count(cells);
         if many < 2 {
             return Err(Question::Signature);
         }
-        self.constructor(start, sort, many - 1)
+        self.constructor(name, sort, many - 1)
     }
 
     // The predicate that a judgment begins with, and its word.
@@ -46,16 +42,11 @@ impl RuleReader<'_, '_> {
             Holds self.old.known.text.now cells.now zs →
             ListOpened self.old self.new cells.now T R zs (predicated T zs R) result }
     {
-        if cells.is_empty() {
-            return Err(Question::Declared);
-        }
-        let Item::Atom(start) = items::item_at(cells, 0) else {
+        let known = self.known;
+        let Some(name) = items::head(known.text, cells) else {
             return Err(Question::Declared);
         };
-        let known = self.known;
-        let end = lex::atom_end(known.text, start);
-        let name = &known.text[start..end];
-        let Some(p) = known.named(Kind::Predicate, name) else {
+        let Some(p) = known.predicate_named(name) else {
             return Err(Question::Declared);
         };
         let arity = readers::arity(known.rows, p);

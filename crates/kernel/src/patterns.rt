@@ -13,7 +13,7 @@ ghost use Rattle.sexp.specs.AtomText.{Spans};
 ghost use Rattle.sexp.specs.NameRows.{NameRows, SomeNames};
 
 use crate::atoms::{marked, put_name};
-use crate::names::{Kind, SymbolTable};
+use crate::names::SymbolTable;
 use crate::readers;
 use cells::Span;
 use questions::{Question, Row};
@@ -102,24 +102,17 @@ impl RuleReader<'_, '_> {
         Ok(())
     }
 
-    // A constructor of a sort with so many arguments, and its word.
-    pub fn constructor(
-        &mut self,
-        start: usize,
-        sort: usize,
-        arity: usize,
-    ) -> Result<usize, Question>
-        requires { HeadAt self.old start }
+    // The constructor of that name, of a sort and with so many arguments, and its word.
+    pub fn constructor(&mut self, name: &[u8], sort: usize, arity: usize) -> Result<usize, Question>
+        requires { HeadAt self.old }
         ensures same_tables { SameTables self.old self.new }
         ensures same_vars { SameVars self.old self.new }
         ensures head { (T : Theory) (R : Reading) → Knows self.old.known T.symbols → R.words ≡ self.old.used →
             HeadRead self.old.patterns.now self.new.patterns.now self.old.used self.new.used T R arity
-            (head T sort arity (letters (drop start self.old.known.text.now)) R) result }
+            (head T sort arity name.now R) result }
     {
         let known = self.known;
-        let end = lex::atom_end(known.text, start);
-        let name = &known.text[start..end];
-        let Some(c) = known.named(Kind::Constructor, name) else {
+        let Some(c) = known.constructor_named(name) else {
             return Err(Question::Declared);
         };
         let output = readers::output(known.rows, c);
@@ -137,15 +130,17 @@ impl RuleReader<'_, '_> {
     // A term of a sort that is an atom.
     pub fn atomic(&mut self, start: usize, sort: usize) -> Result<(), Question>
         requires atom { AtomAt self.old start sort }
-        requires head { HeadAt self.old start }
+        requires head { HeadAt self.old }
         ensures same_tables { SameTables self.old self.new }
         ensures read { (T : Theory) (R : Reading) → Knows self.old.known T.symbols → ReadTo self.old R →
             PartRead prefix self.old self.new (pattern T (atom start (letters (drop start self.old.known.text.now))) sort R) result }
     {
-        if marked(self.known.text, start) {
+        let text = self.known.text;
+        if marked(text, start) {
             return self.variable(start, sort);
         }
-        self.constructor(start, sort, 0)?;
+        let end = lex::atom_end(text, start);
+        self.constructor(&text[start..end], sort, 0)?;
         Ok(())
     }
 }

@@ -70,9 +70,7 @@ term-atomic-requires-clause-atom t c =
     }
 
 pub term-atomic-requires-clause-head : goal.term-atomic-requires-clause-head
-term-atomic-requires-clause-head t c =
-    let atom = atom_first c.requires.part.holds (λ z. omega (arith, z, c.requires.cells_nonzero.0)) c.item_at.ensures c.in-Atom.is in
-    record { held = c.requires.part.held; inside = atom.inside; long = c.requires.part.long }
+term-atomic-requires-clause-head t c = record { held = c.requires.part.held; long = c.requires.part.long }
 
 pub term-offset_bounds-cells-a : goal.term-offset_bounds-cells-a
 term-offset_bounds-cells-a t c =

@@ -1,46 +1,44 @@
 use native.Mathlib.Omega.{arith}
-use Rattle.kernel.specs.SignatureRows.{symbols_rows}
 use Rattle.kernel.proofs.Handed.{handed}
-use Rattle.kernel.proofs.Words.{head_missing, head_wrong_sort, head_wrong_count, head_written, head_full, head_known}
-use Rattle.sexp.specs.AtomText.{atom_span}
+use Rattle.kernel.proofs.Trees.{symbolic}
+use Rattle.kernel.proofs.Words.{head_missing, head_wrong_sort, head_wrong_count, head_written, head_full, constructor_known, known_small}
 use Rattle.kernel.proofs.patterns.RuleReader.constructor.Goals as goal
 
-pub slice_bounds-name-end : goal.slice_bounds-name-end
-slice_bounds-name-end c = (atom_span c.args.self.now.known.text.now c.args.start _ c.requires.inside c.atom_end-end.ensures).high
-
-pub named-requires : goal.named-requires
-named-requires c = (c.requires.held.0, symbols_rows c.requires.held.1)
+pub constructor_named-requires : goal.constructor_named-requires
+constructor_named-requires c = (c.args.self.now.known.inputs.now, c.requires.held)
 
 pub returns-in_default-clause-head : goal.returns-in_default-clause-head
-returns-in_default-clause-head c = λ T R h w.
-    head_missing c.args.self.now.known.text.now c.args.start _ c.args.sort c.args.arity c.atom_end-end.ensures c.requires.inside T R h _
-    c.named.ensures c.in_default.is
+returns-in_default-clause-head c = λ T R h w. head_missing _ c.args.sort c.args.arity T R h _ (c.constructor_named.ensures T _ h) c.in_default.is
 
 pub output-output-requires : goal.output-output-requires
-output-output-requires c = (head_known _ _ _ _ c.requires.held.1 c.named.ensures c.in-Some.is).0
+output-output-requires c = let held = c.requires.held in
+    constructor_known (symbolic held.0) _ _ _ held.1 c.in-Some.is (c.constructor_named.ensures (symbolic held.0) _ held.1)
 
 pub returns-then-output-sort-clause-head : goal.returns-then-output-sort-clause-head
 returns-then-output-sort-clause-head c = λ T R h w.
-    head_wrong_sort c.args.self.now.known.text.now c.args.start _ c.args.sort c.args.arity c.atom_end-end.ensures c.requires.inside T R h _
-    c.named.ensures _ c.in-Some.is _ c.output-output.ensures c.if-output-sort.true
+    head_wrong_sort _ c.args.sort c.args.arity T R h _ (c.constructor_named.ensures T _ h) _ c.in-Some.is _ c.output-output.ensures c.if-output-sort.true
 
 pub arity-many-requires : goal.arity-many-requires
-arity-many-requires c = (head_known _ _ _ _ c.requires.held.1 c.named.ensures c.in-Some.is).0
+arity-many-requires c = let held = c.requires.held in
+    constructor_known (symbolic held.0) _ _ _ held.1 c.in-Some.is (c.constructor_named.ensures (symbolic held.0) _ held.1)
 
 pub returns-then-many-arity-clause-head : goal.returns-then-many-arity-clause-head
 returns-then-many-arity-clause-head c = λ T R h w.
-    head_wrong_count c.args.self.now.known.text.now c.args.start _ c.args.sort c.args.arity c.atom_end-end.ensures c.requires.inside T R h _
-    c.named.ensures _ c.in-Some.is _ c.output-output.ensures c.if-output-sort.false _ c.arity-many.ensures c.if-many-arity.true
+    head_wrong_count _ c.args.sort c.args.arity T R h _ (c.constructor_named.ensures T _ h) _ c.in-Some.is _ c.output-output.ensures c.if-output-sort.false _
+    c.arity-many.ensures c.if-many-arity.true
 
 pub word-requires : goal.word-requires
-word-requires c = record { long = c.requires.long; small = omega (arith, (head_known _ _ _ _ c.requires.held.1 c.named.ensures c.in-Some.is).1) }
+word-requires c = let held = c.requires.held in record {
+  long = c.requires.long;
+  small = omega (arith, known_small (constructor_known (symbolic held.0) _ _ _ held.1 c.in-Some.is (c.constructor_named.ensures (symbolic held.0) _ held.1)));
+}
 
 pub returns-in_err-word-clause-head : goal.returns-in_err-word-clause-head
 returns-in_err-word-clause-head c = λ T R h w. rw (handed c.from_residual.result c.from_residual.ensures)
-    (head_full c.args.self.now.known.text.now c.args.start _ c.args.sort c.args.arity c.atom_end-end.ensures c.requires.inside T R h _
-    c.named.ensures _ c.in-Some.is _ c.output-output.ensures c.if-output-sort.false _ c.arity-many.ensures c.if-many-arity.false _ _ w c.in_err-word.ensures.put)
+    (head_full _ c.args.sort c.args.arity T R h _ (c.constructor_named.ensures T _ h) _ c.in-Some.is _ c.output-output.ensures c.if-output-sort.false _
+    c.arity-many.ensures c.if-many-arity.false _ _ w c.in_err-word.ensures.put)
 
 pub returns-clause-head : goal.returns-clause-head
 returns-clause-head c = λ T R h w.
-    head_written c.args.self.now.known.text.now c.args.start _ c.args.sort c.args.arity c.atom_end-end.ensures c.requires.inside T R h _
-    c.named.ensures _ c.in-Some.is _ c.output-output.ensures c.if-output-sort.false _ c.arity-many.ensures c.if-many-arity.false _ _ w c.requires.long c.in_ok-word.ensures.put
+    head_written _ c.args.sort c.args.arity T R h _ (c.constructor_named.ensures T _ h) _ c.in-Some.is _ c.output-output.ensures c.if-output-sort.false _
+    c.arity-many.ensures c.if-many-arity.false _ _ w c.requires.long c.in_ok-word.ensures.put
