@@ -16,6 +16,7 @@ ghost use Rattle.inversion.specs.Inverting.{NamesHypothesis, InvertsForm, Invert
 
 use crate::inverting::{Inverting, Variables};
 use casework::cases::read_cases;
+use cells::Span;
 use kernel::rule_readers::Rules;
 use questions::Question;
 use reading::names::index as index_in;
@@ -67,8 +68,9 @@ pub fn put_made(vars: &mut [u32], sorts: &[u32], count: usize, end: usize)
     ensures { (goals text : List ℕ) (vs : List Var) → VarsHeld goals text vars.old count vs →
         VarsHeld goals text vars.new end (vars_with vs sorts.now end) }
 {
+    let nowhere = Span { from: 0, end: 0 };
     for v in count..end {
-        put_var(vars, v, sorts[v] as usize, None, 0, 0);
+        put_var(vars, v, sorts[v] as usize, None, nowhere);
     }
 }
 
