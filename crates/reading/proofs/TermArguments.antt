@@ -2,7 +2,7 @@
 use mathlib.Core.Path.{◌≡◌, refl, sym, ap, ◌∙◌, subst}
 use mathlib.Core.Bool.{Bool, true, false, ◌&&◌}
 use mathlib.Core.List.{List, [], ◌∷◌, ◌++◌}
-use Prim.Native.Nat.{ℕ, ◌+◌, ◌-◌, ◌*◌, ◌≤◌, ◌<◌}
+use Prim.Native.Nat.{ℕ, ◌+◌, ◌-◌, ◌≤◌, ◌<◌}
 use native.Mathlib.Omega.{arith}
 use native.Mathlib.Numerals.{add-one}
 use native.Mathlib.Decide.{ℕ_discrete}
@@ -11,19 +11,21 @@ use lib.ListN.{length, get_or, take, drop, set, length-append, length-set, lengt
 use lib.Seq.{take-suc, take-suc-set, take_all, length-take-le}
 use borrow.Author.Tests.{lt-ltb}
 use Rattle.rules.specs.Limits.{SYMBOLS, ARGUMENTS, TERMS, NODE}
-use Rattle.rules.specs.Out.{ok, then}
+use Rattle.rules.specs.Out.{ok, then, ask}
 use Rattle.rules.specs.Sexp.{Sexps, cons}
 use Rattle.rules.specs.Tree.{Trees, more, count_trees}
 use Rattle.rules.specs.Theory.{no_symbol, inputs}
 use Rattle.rules.specs.State.{State, sort_of, fit}
 use Rattle.rules.specs.Read.{term, terms}
 use Rattle.rules.specs.Laws.Theory.{all_at}
+use Rattle.rules.specs.Laws.Store.{then_ok, then_refuse}
 use Rattle.rules.specs.Laws.Out.{then_then}
 use Rattle.sexp.specs.Items.{Holds, item_at, behind}
 use Rattle.sexp.specs.ItemLaws.{More}
 use Rattle.sexp.specs.WalkLaws.{Walk, walk_start, walk_more, walk_over, walk_rest}
-use Rattle.kernel.specs.Readers.{KnownSymbol}
-use Rattle.kernel.specs.SignatureRows.{symbols_few, argument_cell}
+use Rattle.kernel.specs.Readers.{KnownSymbol, KnownInput}
+use Rattle.kernel.specs.Entries.{known_input}
+use Rattle.kernel.specs.SignatureRows.{symbols_few}
 use Rattle.terms.specs.declared.store.Mark.{Mark}
 use Rattle.terms.specs.Table.{made, tree, tree_at, args_of, Node, is_app}
 use Rattle.terms.specs.On.{Stopped, On, on_start, on_is, on_ok, on_no, on_done}
@@ -33,7 +35,7 @@ use Rattle.terms.specs.Laws.Patterns.{before}
 use Rattle.state.specs.declared.sizes.Sizes.{Sizes}
 use Rattle.state.specs.Held.{Names}
 use Rattle.reading.specs.Given.{Reads, ReadsItem}
-use Rattle.reading.specs.Answers.{TypedRead, ArgumentsRead, ArgumentsMisfit}
+use Rattle.reading.specs.Answers.{TypedRead, ArgumentsRead, fitting}
 use Rattle.reading.specs.Laws.Reading.{reads_term}
 use Rattle.reading.specs.Laws.Walks.{walk_next, walk_on, then_same}
 use Rattle.reading.proofs.TermTrees.{below_snoc, more_below, before_none, before_args, fit_snoc, fit_count}
@@ -103,8 +105,8 @@ put_long node after k t false e = ap length e
 module _ {K : Names} {n : Sizes} {I W : List ℕ} {old : Mark} {cells : List ℕ} {c count : ℕ} {S : State} {xs : Sexps} {J X node : List ℕ} {m : Mark}
     {at k : ℕ} {fits : Bool} (g : Going K n I W old cells c count S xs J X node m at k fits) where
   -- what `takes` asks
-  pub going_inputs : (count ≤ ARGUMENTS) × (c < SYMBOLS) × (length K.inputs ≡ ARGUMENTS * SYMBOLS)
-  going_inputs = (omega (arith, inputs_few g.reads g.known, g.counted), symbol_small g.reads g.known, g.reads.spelling.held.longs)
+  pub going_inputs : k < count → KnownInput K.inputs c k
+  going_inputs l = known_input S.theory g.reads.spelling.held g.known (omega (arith, l, g.counted))
 
   pub going_high : k ≤ length cells
   going_high = omega (arith, g.few, g.walk.here.high)
@@ -133,8 +135,10 @@ module _ {K : Names} {n : Sizes} {I W : List ℕ} {old : Mark} {cells : List ℕ
 
     module _ (Y Z : List ℕ) (new : Mark) where
       pub going_stops : (q d : ℕ) → ((h : ReadsItem K n J X m (take (length cells - at) (drop at cells))) → Stopped J X Y Z m (term h.S h.x (made J X m)) q d new) →
-          Stopped I W Y Z old (terms S xs (made I W old)) q d new
-      going_stops q d a = on_no _ first_on (a going_item)
+          Stopped I W Y Z old (then (terms S xs (made I W old)) (fitting S c)) q d new
+      going_stops q d a =
+          let s = on_no _ first_on (a going_item) in
+          record { grown = s.grown; makes = then_refuse (terms S xs (made I W old)) q d (made Y Z new) (fitting S c) s.makes }
 
       module _ (t sort : ℕ)
           (a : (h : ReadsItem K n J X m (take (length cells - at) (drop at cells))) → TypedRead J X Y Z m h.S (term h.S h.x (made J X m)) t sort new) where
@@ -161,15 +165,13 @@ module _ {K : Names} {n : Sizes} {I W : List ℕ} {old : Mark} {cells : List ℕ
             ∙ ap (λ (F : Trees → Trees). then (terms S more_left.others (made Y Z new)) (λ ts s. ok (F ts) s)) (λ i ts. agree ts i))
 
         -- whether that is the sort of the input, as far as there are inputs
-        right_is : {right : Bool} → right ≡ ltb k count && eqb sort (get_or K.inputs (ARGUMENTS * c + k) 0) → k < count →
+        right_is : {right : Bool} → right ≡ ltb k count && eqb sort (get_or (inputs S.theory c) k 0) → k < count →
             right ≡ eqb (sort_of S.theory S.vars (tree Y Z new t)) (get_or (inputs S.theory c) k 0)
         right_is s b =
-            s ∙ ap (λ (z : Bool). z && eqb sort (get_or K.inputs (ARGUMENTS * c + k) 0)) (lt-ltb k count b)
-            ∙ ap (λ z. eqb z (get_or K.inputs (ARGUMENTS * c + k) 0)) read_so.sorted
-            ∙ ap (eqb (sort_of S.theory S.vars (tree Y Z new t)))
-            (argument_cell S.theory g.reads.spelling.held c g.known k (omega (arith, b, g.counted)))
+            s ∙ ap (λ (z : Bool). z && eqb sort (get_or (inputs S.theory c) k 0)) (lt-ltb k count b)
+            ∙ ap (λ z. eqb z (get_or (inputs S.theory c) k 0)) read_so.sorted
 
-        next_sorts : {right : Bool} → right ≡ ltb k count && eqb sort (get_or K.inputs (ARGUMENTS * c + k) 0) → {both : Bool} → both ≡ fits && right →
+        next_sorts : {right : Bool} → right ≡ ltb k count && eqb sort (get_or (inputs S.theory c) k 0) → {both : Bool} → both ≡ fits && right →
             k + 1 ≤ count → both ≡ fit S.theory S.vars (args_of (made Y Z new) (g.ids ++ (t ∷ []))) (take (k + 1) (inputs S.theory c))
         next_sorts {right} s b l =
             let under : k < length (inputs S.theory c) = omega (arith, l, g.counted) in
@@ -192,7 +194,7 @@ module _ {K : Names} {n : Sizes} {I W : List ℕ} {old : Mark} {cells : List ℕ
             ∙ ap (λ (ws : List ℕ). ws ++ (t ∷ [])) (g.puts (omega (arith, b)))
 
         pub going_on : (after : List ℕ) → after ≡ elim (ltb k ARGUMENTS) [ true ↦ set node (k + 1) t | false ↦ node ] →
-            {right : Bool} → right ≡ ltb k count && eqb sort (get_or K.inputs (ARGUMENTS * c + k) 0) → {both : Bool} → both ≡ fits && right → {next : ℕ} → next ≡ behind at (item_at cells at) →
+            {right : Bool} → right ≡ ltb k count && eqb sort (get_or (inputs S.theory c) k 0) → {both : Bool} → both ≡ fits && right → {next : ℕ} → next ≡ behind at (item_at cells at) →
             Going K n I W old cells c count S xs Y Z after new next (k + 1) both
         going_on after d s b e =
             record {
@@ -238,15 +240,20 @@ module _ {K : Names} {n : Sizes} {I W : List ℕ} {old : Mark} {cells : List ℕ
         g.sorts (omega (arith, e)) ∙ ap (fit S.theory S.vars (args_of (made J X m) g.ids)) (take_all k (inputs S.theory c) (omega (arith, e, g.counted)))
 
     -- they do not fit, or are not as many
-    pub going_misfits : (fits ≡ true → k ≡ count → ⊥) → ArgumentsMisfit I W J X old S c (terms S xs (made I W old)) m
+    misfit : (fits ≡ true → k ≡ count → ⊥) → fit S.theory S.vars (args_of (made J X m) g.ids) (inputs S.theory c) ≡ false
+    misfit w = elim (ℕ_discrete k count) [
+      | yes e ↦ sym (all_fit e) ∙ unlike fits (λ z. w z e)
+      | no z ↦ fit_count S.theory S.vars (args_of (made J X m) g.ids) (inputs S.theory c) (λ e. z (sym all_many ∙ e ∙ sym g.counted))
+    ]
+
+    pub going_misfits : (fits ≡ true → k ≡ count → ⊥) → Stopped I W J X old (then (terms S xs (made I W old)) (fitting S c)) 23 0 m
+    unfolding then
     going_misfits w =
+        let all = on_done over_on in
         record {
-          trees = args_of (made J X m) g.ids;
-          went = on_done over_on;
-          misfit = elim (ℕ_discrete k count) [
-            | yes e ↦ sym (all_fit e) ∙ unlike fits (λ z. w z e)
-            | no z ↦ fit_count S.theory S.vars (args_of (made J X m) g.ids) (inputs S.theory c) (λ e. z (sym all_many ∙ e ∙ sym g.counted))
-          ];
+          grown = all.grown;
+          makes = then_ok (terms S xs (made I W old)) (args_of (made J X m) g.ids) (made J X m) (fitting S c) all.makes
+              ∙ ap (λ (b : Bool). then (ask 23 b (made J X m)) (λ _ u. ok (args_of (made J X m) g.ids) u)) (misfit w);
         }
 
     pub going_ends : fits ≡ true → k ≡ count → ArgumentsRead I W J X old S c node (terms S xs (made I W old)) (k + 1) m

@@ -1,28 +1,29 @@
 -- A list that begins with a symbol, behind its arguments: their node is kept where they fit. Assumes nothing.
-use mathlib.Core.Path.{◌≡◌, sym, ap, ◌∙◌, subst}
+use mathlib.Core.Path.{◌≡◌, refl, sym, ap, ◌∙◌}
 use mathlib.Core.List.{List}
-use Rattle.std.specs.Prelude.{Option, Some as some, None as nothing, Result, Ok, Err}
+use Rattle.std.specs.Prelude.{Result, Ok, Err}
 use Prim.Native.Nat.{ℕ, ◌-◌, ◌≤◌}
 use native.Mathlib.Omega.{arith}
 use lib.ListN.{length, take, drop}
 use lib.Seq.{length-take-le}
 use Rattle.rules.specs.Limits.{NODE}
-use Rattle.rules.specs.Out.{Act, ok}
-use Rattle.rules.specs.Tree.{Tree, app}
+use Rattle.rules.specs.Out.{Out, Act, ok, refuse, then, ask}
+use Rattle.rules.specs.Tree.{Tree, Trees, app}
 use Rattle.rules.specs.Store.{Made, keep}
 use Rattle.rules.specs.Theory.{inputs, output}
-use Rattle.rules.specs.State.{State, sort_of}
+use Rattle.rules.specs.State.{State, sort_of, fit}
 use Rattle.rules.specs.Read.{terms}
+use Rattle.rules.specs.Laws.Out.{then_then}
 use Rattle.terms.specs.declared.store.Mark.{Mark}
 use Rattle.questions.specs.declared.Question.{Question}
 use Rattle.terms.specs.Table.{made, tree_at, Node, Good, Stored, Refused}
-use Rattle.terms.specs.On.{Stopped, On, on_start, on_is, on_ok, on_no, on_ask_yes, on_ask_no, on_went, on_stopped, refused_stopped}
+use Rattle.terms.specs.On.{Stopped, On, on_start, on_is, on_ok, on_no, on_ask_yes, on_went, on_stopped, refused_stopped}
 use Rattle.terms.specs.Laws.Numbers.{stored_is}
 use Rattle.state.specs.declared.sizes.Sizes.{Sizes}
 use Rattle.state.specs.Held.{Names}
 use Rattle.reading.specs.declared.term.Typed.{Typed}
 use Rattle.reading.specs.Given.{Reads, ReadsItems}
-use Rattle.reading.specs.Answers.{TermRead, TypedBy, ArgumentsRead, ArgumentsBy}
+use Rattle.reading.specs.Answers.{TermRead, TypedBy, ArgumentsRead, fitting}
 use Rattle.reading.specs.Heads.{Opens, Opened, finish}
 use Rattle.reading.proofs.TermTrees.{fit_many}
 use Rattle.reading.proofs.TermArguments.{inputs_few}
@@ -36,6 +37,13 @@ opens {K} g = record { S = g.S; ins = K.inputs; xs = g.xs; held = g.reads.spelli
 
 -- Behind the arguments -----------------------------------------------------------------------------------------------------------------
 
+-- what is left behind the arguments is left behind those that fit
+fitted : (S : State) (c : ℕ) (K : Out Made Trees) → then K (finish S c) ≡ then (then K (fitting S c)) (λ ts u. keep (app c ts) u)
+unfolding then
+fitted S c (ok ts u) =
+    sym (then_then (ask 23 (fit S.theory S.vars ts (inputs S.theory c)) u) (λ _ v. ok ts v) (λ us v. keep (app c us) v))
+fitted S c (refuse q d u) = refl
+
 module _ {K : Names} {n : Sizes} {I W : List ℕ} {m : Mark} {S : State} (g : Reads K n I W m S) {cells : List ℕ} {Q : Act Made Tree} {c : ℕ}
     (o : Opened K.text cells n.symbols S Q c) where
   -- the arguments
@@ -43,26 +51,17 @@ module _ {K : Names} {n : Sizes} {I W : List ℕ} {m : Mark} {S : State} (g : Re
   rest_items = record { S = S; xs = o.others; reads = g; holds = o.rest }
 
   module _ (J X : List ℕ) (new : Mark) where
-    -- they are refused
+    -- they are refused, or do not fit
     pub behind_stops : (q d : ℕ) →
-        ((h : ReadsItems K n I W m (take (length cells - 1) (drop 1 cells))) → Stopped I W J X m (terms h.S h.xs (made I W m)) q d new) →
+        ((h : ReadsItems K n I W m (take (length cells - 1) (drop 1 cells))) → Stopped I W J X m (then (terms h.S h.xs (made I W m)) (fitting h.S c)) q d new) →
         Stopped I W J X m (Q (made I W m)) q d new
-    behind_stops q d a = on_no (finish S c) (on_is (on_start g.good) (o.is (made I W m))) (a rest_items)
+    behind_stops q d a =
+        on_no (λ ts u. keep (app c ts) u) (on_is (on_start g.good) (o.is (made I W m) ∙ fitted S c (terms S o.others (made I W m)))) (a rest_items)
 
-    -- they do not fit
-    pub behind_misfits : (node : List ℕ) {r : Option ℕ} → r ≡ nothing → ((h : ReadsItems K n I W m (take (length cells - 1) (drop 1 cells))) →
-        ArgumentsBy I W J X m new h.S c node (terms h.S h.xs (made I W m)) (Ok r)) → Stopped I W J X m (Q (made I W m)) 23 0 new
-    behind_misfits node {r} e a = go r e (a rest_items)
-      where
-        go : (z : Option ℕ) → z ≡ nothing → ArgumentsBy I W J X m new S c node (terms S o.others (made I W m)) (Ok z) → Stopped I W J X m (Q (made I W m)) 23 0 new
-        go nothing f k =
-            on_ask_no (λ _ u. keep (app c k.trees) u) 23 (on_ok (finish S c) (on_is (on_start g.good) (o.is (made I W m))) k.went) k.misfit
-        go (some len) f k = absurd (let z : nothing ≡ some len = sym f in cc)
-
-    module _ (node : List ℕ) {len : ℕ} {r : Option ℕ} (e : r ≡ some len)
-        (a : (h : ReadsItems K n I W m (take (length cells - 1) (drop 1 cells))) → ArgumentsBy I W J X m new h.S c node (terms h.S h.xs (made I W m)) (Ok r)) where
+    module _ (node : List ℕ) {len : ℕ}
+        (a : (h : ReadsItems K n I W m (take (length cells - 1) (drop 1 cells))) → ArgumentsRead I W J X m h.S c node (terms h.S h.xs (made I W m)) len new) where
       so : ArgumentsRead I W J X m S c node (terms S o.others (made I W m)) len new
-      so = subst (λ z. ArgumentsBy I W J X m new S c node (terms S o.others (made I W m)) (Ok z)) e (a rest_items)
+      so = a rest_items
 
       pub behind_narrow : len ≤ NODE
       behind_narrow = omega (arith, so.many, fit_many S.theory S.vars so.trees (inputs S.theory c) so.fits, inputs_few g o.known)

@@ -1,8 +1,8 @@
 -- What the functions of this crate answer, beside what the definition answers: K. Each relation is said over plain tables and marks (By), and of the
 -- store before and afterwards (As). Assumes nothing.
-use Rattle.std.specs.Prelude.{◌≡◌, Bool, true, false, List, ℕ, ◌+◌, ◌<◌, length, take, Some as some, None as nothing, Option, Result, Ok, Err}
+use Rattle.std.specs.Prelude.{◌≡◌, Bool, true, List, ℕ, ◌+◌, ◌<◌, length, take, Some as some, None as nothing, Option, Result, Ok, Err}
 use Rattle.rules.specs.Limits.{VARIABLES}
-use Rattle.rules.specs.Out.{Out, ok, refuse}
+use Rattle.rules.specs.Out.{Out, Act, ok, refuse, then, ask}
 use Rattle.rules.specs.Find.{has}
 use Rattle.rules.specs.Sexp.{Sexp}
 use Rattle.rules.specs.Tree.{Tree, Trees, app, count_trees}
@@ -51,7 +51,11 @@ TypedBy I W J X old new S K (Err q) = Stopped I W J X old K (number_of q) (detai
 abbrev pub TypedAs : Store → Store → State → Out Made Tree → Result Typed Question → Type 0
 TypedAs s t S K r = TypedBy s.index.now s.words.now t.index.now t.words.now s.mark t.mark S K r
 
--- K answers terms that fit symbol c, and the first cells of the node are that of c over them; or terms that do not fit
+-- terms are answered if they fit symbol c: question 23
+abbrev pub fitting : State → ℕ → Trees → Act Made Trees
+fitting S c ts s = then (ask 23 (fit S.theory S.vars ts (inputs S.theory c)) s) (λ _ u. ok ts u)
+
+-- K answers terms that fit symbol c, and the first cells of the node are that of c over them
 pub record ArgumentsRead (I W J X : List ℕ) (old : Mark) (S : State) (c : ℕ) (node : List ℕ) (K : Out Made Trees) (len : ℕ) (new : Mark) : Type 0 where
   pub trees : Trees
   pub went : Went I W J X old K trees new
@@ -60,17 +64,11 @@ pub record ArgumentsRead (I W J X : List ℕ) (old : Mark) (S : State) (c : ℕ)
   pub tree_is : tree_at (made J X new) (take len node) ≡ app c trees
   pub good : Node new.terms (take len node)
 
-pub record ArgumentsMisfit (I W J X : List ℕ) (old : Mark) (S : State) (c : ℕ) (K : Out Made Trees) (new : Mark) : Type 0 where
-  pub trees : Trees
-  pub went : Went I W J X old K trees new
-  pub misfit : fit S.theory S.vars trees (inputs S.theory c) ≡ false
+abbrev pub ArgumentsBy : List ℕ → List ℕ → List ℕ → List ℕ → Mark → Mark → State → ℕ → List ℕ → Out Made Trees → Result ℕ Question → Type 0
+ArgumentsBy I W J X old new S c node K (Ok len) = ArgumentsRead I W J X old S c node K len new
+ArgumentsBy I W J X old new S c node K (Err q) = Stopped I W J X old (then K (fitting S c)) (number_of q) (detail_of q) new
 
-abbrev pub ArgumentsBy : List ℕ → List ℕ → List ℕ → List ℕ → Mark → Mark → State → ℕ → List ℕ → Out Made Trees → Result (Option ℕ) Question → Type 0
-ArgumentsBy I W J X old new S c node K (Ok (some len)) = ArgumentsRead I W J X old S c node K len new
-ArgumentsBy I W J X old new S c node K (Ok nothing) = ArgumentsMisfit I W J X old S c K new
-ArgumentsBy I W J X old new S c node K (Err q) = Stopped I W J X old K (number_of q) (detail_of q) new
-
-abbrev pub ArgumentsAs : Store → Store → State → ℕ → List ℕ → Out Made Trees → Result (Option ℕ) Question → Type 0
+abbrev pub ArgumentsAs : Store → Store → State → ℕ → List ℕ → Out Made Trees → Result ℕ Question → Type 0
 ArgumentsAs s t S c node K r = ArgumentsBy s.index.now s.words.now t.index.now t.words.now s.mark t.mark S c node K r
 
 -- Lists --------------------------------------------------------------------------------------------------------------------------

@@ -1,15 +1,18 @@
 // Terms and judgments: questions 22 and 23. What is read comes into the store on the way, each argument before its term. Counts and sorts are asked
 // behind the arguments, of which those beyond the sixteenth are made as well.
-ghost use Rattle.std.specs.Prelude.{◌≡◌, true, false, ◌&&◌, ◌+◌, ◌*◌, ◌<◌, ◌≤◌, eqb, ltb, length, get_or, set, drop};
+ghost use Rattle.std.specs.Prelude.{◌≡◌, true, false, ℕ, List, ◌&&◌, ◌+◌, ◌<◌, eqb, ltb, length, get_or, set, drop};
 ghost use Rattle.rules.specs.Limits.{SYMBOLS, ARGUMENTS, TERMS, NODE};
 ghost use Rattle.rules.specs.Lex.{letters};
 ghost use Rattle.rules.specs.Out.{found};
 ghost use Rattle.rules.specs.Sexp.{atom, list};
 ghost use Rattle.rules.specs.Store.{keep};
+ghost use Rattle.rules.specs.Theory.{Theory, inputs as inputs_of};
 ghost use Rattle.rules.specs.State.{State, sort_of, abbreviated};
 ghost use Rattle.rules.specs.Read.{named, term, terms, compound, term_of, judgment};
 ghost use Rattle.terms.specs.Table.{tree, tree_at, Node};
 ghost use Rattle.terms.specs.Lent.{GoodStore, SameTables, made_of, terms_made};
+ghost use Rattle.kernel.specs.Held.{SymbolsHeld};
+ghost use Rattle.kernel.specs.Readers.{KnownInput};
 ghost use Rattle.reading.specs.Reader.{names_of};
 ghost use Rattle.reading.specs.Given.{ReadsTerm, ReadsDefs, ReadsNames, ReadsItem, ReadsItems};
 ghost use Rattle.reading.specs.Answers.{ReadAs, TypedBy, TypedAs, ArgumentsAs};
@@ -17,7 +20,7 @@ ghost use Rattle.reading.specs.Heads.{ReadsAtom, Opens, OpenedAs};
 
 use crate::reader::Reader;
 use kernel::atoms::marked;
-use kernel::readers::{arity, output};
+use kernel::readers::{arity, input, output};
 use questions::Question;
 use rules::{NODE, SYMBOLS};
 use sexp::items::Item;
@@ -64,10 +67,11 @@ fn put_argument(node: &mut [u32], k: usize, t: usize)
 
 // Whether symbol c, which takes `count` arguments, takes a term of that sort as argument k.
 fn takes(inputs: &[u32], c: usize, count: usize, k: usize, sort: usize) -> bool
-    requires { (count ≤ ARGUMENTS) × (c < SYMBOLS) × (length inputs.now ≡ ARGUMENTS * SYMBOLS) }
-    ensures { result ≡ ltb k count && eqb sort (get_or inputs.now (ARGUMENTS * c + k) 0) }
+    requires { k < count → KnownInput inputs.now c k }
+    ensures { (T : Theory) (text symbols : List ℕ) (known : ℕ) → SymbolsHeld text symbols inputs.now known T.symbols → c < known → count ≡ length (inputs_of T c) →
+        result ≡ ltb k count && eqb sort (get_or (inputs_of T c) k 0) }
 {
-    k < count && sort == inputs[rules::ARGUMENTS * c + k] as usize
+    k < count && sort == input(inputs, c, k)
 }
 
 impl Reader<'_> {
@@ -79,6 +83,7 @@ impl Reader<'_> {
     {
         let word = terms.head(id);
         if word < SYMBOLS {
+            // by hand: `output` asks that the theory has the symbol, which is not asked here
             return self.symbols[4 * word] as usize;
         }
         var_sort(self.vars, word - SYMBOLS)
@@ -191,14 +196,13 @@ impl Reader<'_> {
     {
         let c = self.constructor_first(cells)?;
         let mut node = [0u32; NODE];
-        let args = self.arguments(store, &cells[1..], c, &mut node)?;
-        let len = args.ok_or(Question::Sorting)?;
+        let len = self.arguments(store, &cells[1..], c, &mut node)?;
         keep_typed(store, &node[..len], output(self.symbols, c))
     }
 
-    // The terms that the items spell, as the arguments of symbol c. Where they are as many as its inputs and each of its sort, the node is that of c over
-    // them, and what is answered is how long it is. `k` is in the answer: an `enumerate` would leave it to a second walk or a variable beside it, which
-    // is no plainer.
+    // The terms that the items spell, as the arguments of symbol c. They must be as many as its inputs and each of its sort: then the node is that of c
+    // over them, and what is answered is how long it is. `k` is in the answer: an `enumerate` would leave it to a second walk or a variable beside it,
+    // which is no plainer.
     #[cycle(arguments_compound_term)]
     fn arguments(
         &self,
@@ -206,7 +210,7 @@ impl Reader<'_> {
         cells: &[u32],
         c: usize,
         node: &mut [u32],
-    ) -> Result<Option<usize>, Question>
+    ) -> Result<usize, Question>
         requires { ReadsItems (names_of self.now) self.now.n store.old.index.now store.old.words.now store.old.mark cells.now × (c < self.now.n.symbols) × (length node.old ≡ NODE) }
         ensures same_tables { SameTables store.old store.new }
         ensures arguments_as { (g : ReadsItems (names_of self.now) self.now.n store.old.index.now store.old.words.now store.old.mark cells.now) →
@@ -223,9 +227,9 @@ impl Reader<'_> {
             k += 1;
         }
         if !fits || k != count {
-            return Ok(None);
+            return Err(Question::Sorting);
         }
-        Ok(Some(k + 1))
+        Ok(k + 1)
     }
 
     // The term of that sort that the first item spells.
@@ -260,8 +264,7 @@ impl Reader<'_> {
         let inner = &cells[a..b];
         let p = self.predicate_first(inner)?;
         let mut node = [0u32; NODE];
-        let read = self.arguments(store, &inner[1..], p, &mut node)?;
-        let len = read.ok_or(Question::Sorting)?;
+        let len = self.arguments(store, &inner[1..], p, &mut node)?;
         Ok(store.keep(&node[..len])?)
     }
 }

@@ -1,15 +1,12 @@
-use mathlib.Core.Path.{refl, sym, ap, ◌∙◌}
+use mathlib.Core.Path.{refl, sym, ◌∙◌}
 use mathlib.Core.Bool.{true≢false}
 use native.Mathlib.Omega.{arith}
 use Rattle.std.proofs.lemmas.Result.{err_from_is_err_and}
-use Rattle.std.specs.Prelude.{Err}
-use Rattle.kernel.proofs.Handed.{handed}
 use Rattle.terms.specs.On.{pure_stopped}
-use Rattle.reading.proofs.Missing.{there, absent, question_is}
 use Rattle.sexp.specs.Each.{here, over}
 use Rattle.reading.proofs.TermArguments.{known_symbol, symbol_small, going_begins, going_inputs, going_high, going_item, going_stops, going_put, going_on, going_misfits, going_ends, part_most}
 use Rattle.reading.proofs.TermHeads.{rest_fewer}
-use Rattle.reading.proofs.TermBehind.{opens, rest_items, behind_stops, behind_misfits, behind_narrow, behind_length, behind_node, behind_typed}
+use Rattle.reading.proofs.TermBehind.{opens, rest_items, behind_stops, behind_narrow, behind_length, behind_node, behind_typed}
 use Rattle.reading.proofs.TermItems.{item_there, atom_given, term_atomic, item_list, list_items, term_compounds}
 use Rattle.reading.proofs.reader.Reader.+arguments_compound_term.Goals as goal
 use Rattle.reading.proofs.reader.Reader.+arguments_compound_term.Goals.{arguments-then-not-fits-via-then-not-fits, arguments-then-not-fits-via-else-not-fits+then-k-count}
@@ -49,7 +46,7 @@ arguments-loop-item-preserved t c = record {
   cells = (here c.loop-item.invariant.cells c.in-Some.ensures.steps).same;
   same = (c.term.ensures.same_tables.0 ∙ c.loop-item.invariant.same.0, c.term.ensures.same_tables.1 ∙ c.loop-item.invariant.same.1);
   going = λ g. going_on (c.loop-item.invariant.going g) (here c.loop-item.invariant.cells c.in-Some.ensures.steps).inside _ _ _ _ _ (rw (here c.loop-item.invariant.cells c.in-Some.ensures.steps).is at c.in_ok-typed.ensures.typed_as)
-      c.put_argument.new.node c.put_argument.ensures c.takes-fits.ensures refl (here c.loop-item.invariant.cells c.in-Some.ensures.steps).behind;
+      c.put_argument.new.node c.put_argument.ensures (c.takes-fits.ensures g.S.theory _ _ _ (c.loop-item.invariant.going g).reads.spelling.held (c.loop-item.invariant.going g).known (c.loop-item.invariant.going g).counted) refl (here c.loop-item.invariant.cells c.in-Some.ensures.steps).behind;
 }
 
 pub arguments-overflow_add-result : goal.arguments-overflow_add-result
@@ -82,34 +79,30 @@ pub compound-arguments-requires : goal.compound-arguments-requires
 compound-arguments-requires t c = let o = c.in_ok-c.ensures (opens c.requires) in
     (omega (arith, rest_fewer c.args.cells.now o.some, c.decreases), (rest_items c.requires.reads o, o.known, refl))
 
-pub compound-returns-in_err-args-clause-typed_as : goal.compound-returns-in_err-args-clause-typed_as
-compound-returns-in_err-args-clause-typed_as t c = λ g. let p = err_from_is_err_and c.from_residual-in_err-args.result c.from_residual-in_err-args.ensures.1 in
-    rw (p.1, p.2) (behind_stops g.reads (c.in_ok-c.ensures (opens g)) _ _ _ _ _ c.in_err-args.ensures.arguments_as)
-
 pub compound-returns-in_err-len-clause-typed_as : goal.compound-returns-in_err-len-clause-typed_as
-compound-returns-in_err-len-clause-typed_as t c = λ g. rw (handed c.from_residual-in_err-len.result c.from_residual-in_err-len.ensures ∙ ap Err (question_is _ _ c.ok_or.ensures.ok_part c.ok_or.ensures.value c.in_err-len.was))
-    (behind_misfits g.reads (c.in_ok-c.ensures (opens g)) _ _ _ _ (absent _ _ c.ok_or.ensures.ok_part c.in_err-len.was) c.in_ok-args.ensures.arguments_as)
+compound-returns-in_err-len-clause-typed_as t c = λ g. let p = err_from_is_err_and c.from_residual-in_err-len.result c.from_residual-in_err-len.ensures.1 in
+    rw (p.1, p.2) (behind_stops g.reads (c.in_ok-c.ensures (opens g)) _ _ _ _ _ c.in_err-len.ensures.arguments_as)
 
 pub compound-slice_bounds-node-end : goal.compound-slice_bounds-node-end
 compound-slice_bounds-node-end t c = omega (
   arith,
-  behind_narrow c.requires.reads (c.in_ok-c.ensures (opens c.requires)) _ _ _ _ (there _ _ c.ok_or.ensures.ok_part c.in_ok-len.was) c.in_ok-args.ensures.arguments_as,
+  behind_narrow c.requires.reads (c.in_ok-c.ensures (opens c.requires)) _ _ _ _ c.in_ok-len.ensures.arguments_as,
   c.arguments.auto.node,
 )
 
 pub compound-slice_bounds-keep_typed-end : goal.compound-slice_bounds-keep_typed-end
-compound-slice_bounds-keep_typed-end t c = behind_length c.requires.reads (c.in_ok-c.ensures (opens c.requires)) _ _ _ _ (there _ _ c.ok_or.ensures.ok_part c.in_ok-len.was) c.in_ok-args.ensures.arguments_as
+compound-slice_bounds-keep_typed-end t c = behind_length c.requires.reads (c.in_ok-c.ensures (opens c.requires)) _ _ _ _ c.in_ok-len.ensures.arguments_as
     c.arguments.auto.node
 
 pub compound-output-requires : goal.compound-output-requires
 compound-output-requires t c = known_symbol c.requires.reads (c.in_ok-c.ensures (opens c.requires)).known
 
 pub compound-keep_typed-requires : goal.compound-keep_typed-requires
-compound-keep_typed-requires t c = behind_node c.requires.reads (c.in_ok-c.ensures (opens c.requires)) _ _ _ _ (there _ _ c.ok_or.ensures.ok_part c.in_ok-len.was) c.in_ok-args.ensures.arguments_as
+compound-keep_typed-requires t c = behind_node c.requires.reads (c.in_ok-c.ensures (opens c.requires)) _ _ _ _ c.in_ok-len.ensures.arguments_as
 
 pub compound-returns-clause-typed_as : goal.compound-returns-clause-typed_as
 compound-returns-clause-typed_as t c = λ g. let o = c.in_ok-c.ensures (opens g) in
-    behind_typed g.reads o _ _ _ _ (there _ _ c.ok_or.ensures.ok_part c.in_ok-len.was) c.in_ok-args.ensures.arguments_as _ _ _ c.output.result c.keep_typed.result
+    behind_typed g.reads o _ _ _ _ c.in_ok-len.ensures.arguments_as _ _ _ c.output.result c.keep_typed.result
     (c.output.ensures g.S.theory _ _ _ g.reads.spelling.held o.known) c.keep_typed.ensures.typed_as
 
 pub term-item_at-requires : goal.term-item_at-requires
