@@ -11,10 +11,7 @@ use lib.Dec.{ltb}
 use borrow.Author.Tests.{eq-eqb, ne_eqb, lt-ltb, le-ltb}
 use Rattle.rules.specs.Index.{digit, digits, value, unsigned, index_of}
 use Rattle.rules.specs.Laws.Lex.{drop_at}
-
-and_not : (a : Bool) → a && false ≡ false
-and_not true = refl
-and_not false = refl
+use Rattle.std.proofs.Math.Bool.{and-false}
 
 value_more : (n : ℕ) (bs : List ℕ) → n ≤ value n bs
 unfolding value
@@ -38,7 +35,7 @@ unfolding unsigned
 too_big [] h = refl
 too_big (b ∷ D) h =
     let v : ℕ = value 0 (b ∷ D) in
-    unsigned_cons b D ∙ ap (λ x. checked (digits (b ∷ D) && x) v) (le-ltb v (2 ^ 64) h) ∙ ap (λ x. checked x v) (and_not (digits (b ∷ D)))
+    unsigned_cons b D ∙ ap (λ x. checked (digits (b ∷ D) && x) v) (le-ltb v (2 ^ 64) h) ∙ ap (λ x. checked x v) (and-false (digits (b ∷ D)))
 
 is_unsigned : (D : List ℕ) (n : ℕ) → (length D ≡ 0 → ⊥) → digits D ≡ true → value 0 D ≡ n → n < 2 ^ 64 → unsigned D ≡ some n
 is_unsigned [] n s e v h = absurd (s refl)

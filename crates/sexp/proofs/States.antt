@@ -16,19 +16,14 @@ use Rattle.std.specs.Prelude.{Option, Some as some, None as nothing, Result, Ok,
 use Rattle.questions.specs.declared.Question.{Question}
 use Rattle.questions.specs.declared.Question.TheVariants.{Brackets}
 use Rattle.sexp.specs.Reads.{Clear, Asks, Answers, written, Behind, ReadRight}
+use Rattle.sexp.specs.Through.{Legible}
 use Rattle.sexp.specs.declared.sexp.Form.{Form}
 use Rattle.sexp.proofs.CellLaws.{stored, laid_length, zeros_behind, cleared}
 use Rattle.sexp.proofs.OpenLists.{layout, top, layout_open, layout_snoc, top_snoc, layout_length, top_room, top_low, around, counted, Stands, snoc_spelt}
 
--- what the code asks of its arguments
-pub record Begun (text : List ℕ) (start : ℕ) (w₀ : List ℕ) : Type 0 where
-  pub short : length text ≤ LENGTH
-  pub room : length text ≤ length w₀
-  pub clear : Clear w₀
-
 -- where the loop stands: what the definition reads from here, with the lists that are open, is what it reads from the start
 pub record State (text : List ℕ) (start : ℕ) (w₀ w : List ℕ) (at used depth op : ℕ) : Type 0 where
-  pub begun : Begun text start w₀
+  pub legible : Legible text w₀
   pub st : List Sexps
   pub laid : w ≡ layout st ++ drop used w₀
   pub uses : used ≡ length (layout st)
@@ -40,18 +35,18 @@ pub record State (text : List ℕ) (start : ℕ) (w₀ w : List ℕ) (at used de
   pub few : start + used ≤ at
   pub stands : Stands text st
 
-pub started : (text : List ℕ) (start : ℕ) (w : List ℕ) → (start ≤ length text) × (length text ≤ LENGTH) × (length text ≤ length w) → Clear w → State text start w w start 0 0 0
+pub started : (text : List ℕ) (start : ℕ) (w : List ℕ) → start ≤ length text → Legible text w → State text start w w start 0 0 0
 unfolding layout read_from
-started text start w h z =
+started text start w h l =
     record {
-      begun = record { short = h.1; room = h.2; clear = z };
+      legible = l;
       st = [];
       laid = refl;
       uses = refl;
       opens = refl;
       deep = refl;
       most = omega arith;
-      high = h.0;
+      high = h;
       same = refl;
       few = omega arith;
       stands = tt;
@@ -69,7 +64,7 @@ module _ {text : List ℕ} {start : ℕ} {w₀ w : List ℕ} {at used depth op :
   pub skipped : (r : ℕ) → Skipped text at r → State text start w₀ w r used depth op
   skipped r k =
       record {
-        begun = s.begun;
+        legible = s.legible;
         st = s.st;
         laid = s.laid;
         uses = s.uses;
@@ -83,7 +78,7 @@ module _ {text : List ℕ} {start : ℕ} {w₀ w : List ℕ} {at used depth op :
       }
 
   pub same_length : length w ≡ length w₀
-  same_length = laid_length (layout s.st) w₀ w used s.laid (sym s.uses) (omega (arith, s.few, s.high, s.begun.room))
+  same_length = laid_length (layout s.st) w₀ w used s.laid (sym s.uses) (omega (arith, s.few, s.high, s.legible.fits))
 
   -- where the innermost list is
   pub head_used : (depth ≡ 0 → ⊥) → op < used
@@ -94,13 +89,13 @@ module _ {text : List ℕ} {start : ℕ} {w₀ w : List ℕ} {at used depth op :
 
   -- the cells that a step takes are there, and what it stores fits
   pub used_most : (used ≤ LENGTH) × (used ≤ length w)
-  used_most = (omega (arith, s.few, s.high, s.begun.short), omega (arith, s.few, s.high, s.begun.room, same_length))
+  used_most = (omega (arith, s.few, s.high, s.legible.short), omega (arith, s.few, s.high, s.legible.fits, same_length))
 
   pub room_open : at < length text → (used < length w) × (op < 2 ^ 32)
-  room_open i = (omega (arith, s.few, s.begun.room, same_length), omega (arith, head_low, used_most.0))
+  room_open i = (omega (arith, s.few, s.legible.fits, same_length), omega (arith, head_low, used_most.0))
 
   pub room_word : at < length text → (used < length w) × (2 * at + 1 < 2 ^ 32)
-  room_word i = (omega (arith, s.few, s.begun.room, same_length), omega (arith, s.begun.short))
+  room_word i = (omega (arith, s.few, s.legible.fits, same_length), omega (arith, s.legible.short))
 
   pub room_close : (depth ≡ 0 → ⊥) → (op < length w) × (2 * (used - op - 1) < 2 ^ 32)
   room_close d = (omega (arith, head_used d, used_most.1), omega (arith, used_most.0))
@@ -109,14 +104,14 @@ module _ {text : List ℕ} {start : ℕ} {w₀ w : List ℕ} {at used depth op :
   pub refused : {n : ℕ} (q : Question) → Asks n q → read_from text start ≡ fails n → (v : List ℕ) → v ≡ replicate used 0 ++ drop used w → ReadRight text start w₀ v (Err q)
   refused {n} q k e v f =
       finish (fails n) e (q, refl, k)
-      (f ∙ cleared (layout s.st) w₀ w used s.begun.clear s.laid (sym s.uses) (omega (arith, s.few, s.high, s.begun.room))) tt
+      (f ∙ cleared (layout s.st) w₀ w used s.legible.clear s.laid (sym s.uses) (omega (arith, s.few, s.high, s.legible.fits))) tt
 
   -- with nothing open nothing is stored
   unused : s.st ≡ [] → w ≡ replicate (length w₀) 0
   unfolding layout
   unused e =
       let u : used ≡ 0 = s.uses ∙ ap (λ x. length (layout x)) e in
-      s.laid ∙ rw (e, u) s.begun.clear
+      s.laid ∙ rw (e, u) s.legible.clear
 
   pub ends : length text ≤ at → depth ≡ 0 → ReadRight text start w₀ w (Ok nothing)
   ends i d = go s.st refl
@@ -136,9 +131,9 @@ module _ {text : List ℕ} {start : ℕ} {w₀ w : List ℕ} {at used depth op :
     unfolding layout
     opens_on b d =
         record {
-          begun = s.begun;
+          legible = s.legible;
           st = nil ∷ s.st;
-          laid = rw (layout_open s.st, ← s.opens) (stored (layout s.st) w₀ w used op s.laid (sym s.uses) (omega (arith, s.few, s.begun.room)));
+          laid = rw (layout_open s.st, ← s.opens) (stored (layout s.st) w₀ w used op s.laid (sym s.uses) (omega (arith, s.few, s.legible.fits)));
           uses = omega (arith, ap length (layout_open s.st), length-append (layout s.st) (top s.st ∷ []), s.uses);
           opens = s.uses;
           deep = omega (arith, s.deep);
@@ -178,7 +173,7 @@ module _ {text : List ℕ} {start : ℕ} {w₀ w : List ℕ} {at used depth op :
         go (xs ∷ ys ∷ st) e =
             let k : Stands text (xs ∷ ys ∷ st) = rw e at s.stands in
             record {
-              begun = s.begun;
+              legible = s.legible;
               st = snoc ys (list xs) ∷ st;
               laid = rw (layout_snoc ys st (list xs)) (closed_laid xs (ys ∷ st) e);
               uses = closed_uses xs (ys ∷ st) e ∙ ap length (sym (layout_snoc ys st (list xs)));
@@ -204,7 +199,7 @@ module _ {text : List ℕ} {start : ℕ} {w₀ w : List ℕ} {at used depth op :
             finish (more (list xs) (suc at) (read_from text (at + 1)))
             (s.same ∙ rw e (ap (forms (xs ∷ [])) (place_right text at i (kind_right _ b)) ∙ forms_closed xs at _))
             (rw (u, add-one at))
-            (closed_laid xs [] e ∙ rw (zeros_behind w₀ used s.begun.clear (omega (arith, s.few, s.begun.room)), u))
+            (closed_laid xs [] e ∙ rw (zeros_behind w₀ used s.legible.clear (omega (arith, s.few, s.legible.fits)), u))
             (record { follows = ap (read_from text) (add-one at); on = omega (arith, s.few); within = i; spelt = k.0; few = omega (arith, s.few, u) })
 
     module _ (l : kind (get_or text at 0) ≡ letter) (end : ℕ) (we : end ≡ at + length (letters (drop at text))) where
@@ -228,9 +223,9 @@ module _ {text : List ℕ} {start : ℕ} {w₀ w : List ℕ} {at used depth op :
               let ul : used ≡ length (layout (xs ∷ st)) = s.uses ∙ ap (λ x. length (layout x)) e in
               let k : Stands text (xs ∷ st) = rw e at s.stands in
               record {
-                begun = s.begun;
+                legible = s.legible;
                 st = snoc xs y ∷ st;
-                laid = rw (layout_snoc xs st y) (stored (layout (xs ∷ st)) w₀ w used (2 * at + 1) (s.laid ∙ rw e) (sym ul) (omega (arith, s.few, s.begun.room)));
+                laid = rw (layout_snoc xs st y) (stored (layout (xs ∷ st)) w₀ w used (2 * at + 1) (s.laid ∙ rw e) (sym ul) (omega (arith, s.few, s.legible.fits)));
                 uses = rw (layout_snoc xs st y) (omega (arith, ul, length-append (layout (xs ∷ st)) ((2 * at + 1) ∷ [])));
                 opens = s.opens ∙ ap top e ∙ sym (top_snoc xs st y);
                 deep = s.deep ∙ ap length e;
@@ -253,7 +248,7 @@ module _ {text : List ℕ} {start : ℕ} {w₀ w : List ℕ} {at used depth op :
               finish (more (atom at bs) (at + length bs) (read_from text end))
               (s.same ∙ rw e (ap (forms []) atom_token ∙ forms_bare at bs _))
               (rw (u, we))
-              (stored [] w₀ w used (2 * at + 1) (s.laid ∙ rw e) (sym u) (omega (arith, s.few, s.begun.room)) ∙ rw (u, zeros_behind w₀ 1 s.begun.clear (omega (arith, s.few, s.begun.room))))
+              (stored [] w₀ w used (2 * at + 1) (s.laid ∙ rw e) (sym u) (omega (arith, s.few, s.legible.fits)) ∙ rw (u, zeros_behind w₀ 1 s.legible.clear (omega (arith, s.few, s.legible.fits))))
               (record { follows = rw we; on = omega (arith, s.few, longer, we); within = omega (arith, within_text, we); spelt = record { inside = i; bytes = refl }; few = omega (arith, s.few, longer, we) })
 
 -- The first token ----------------------------------------------------------------------------------------------------------------
@@ -264,9 +259,9 @@ zero_again [] z = refl
 zero_again (x ∷ w) z = ap (λ n. n ∷ w) (sym (ap (λ l. get_or l 0 0) z))
 
 pub opened :
-    (text : List ℕ) (start : ℕ) (w : List ℕ) → (start < length text) × (get_or text start 0 ≡ 40) → (length text ≤ LENGTH) × (length text ≤ length w) × Clear w →
+    (text : List ℕ) (start : ℕ) (w : List ℕ) → (start < length text) × (get_or text start 0 ≡ 40) → Legible text w →
     State text start w w (start + 1) 1 1 0
-opened text start w h k = rw (zero_again w k.2) at (opens_on (started text start w (omega arith, k.0, k.1) k.2) h.0 h.1 (λ e. omega arith))
+opened text start w h l = rw (zero_again w l.clear) at (opens_on (started text start w (omega arith) l) h.0 h.1 (λ e. omega arith))
 
 -- what was read from the place of the first token was read from before it
 pub from_before : {text : List ℕ} {start at : ℕ} {w v : List ℕ} {r : Result (Option Form) Question} → Skipped text start at → ReadRight text at w v r → ReadRight text start w v r

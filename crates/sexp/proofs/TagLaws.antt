@@ -1,5 +1,6 @@
 -- The tables of the code are the definition's, and the first row that fits is the same. Assumes nothing.
 use Rattle.std.proofs.Common.{◌≡◌, refl, sym, ap, ◌∙◌, ℕ, ◌≤◌, ◌<◌, Bool, true, false, ◌&&◌, List, [], ◌∷◌, ◌+◌, suc, leb, length, get_or, drop, add-one, drop-cons, arith}
+use Rattle.std.proofs.Math.Bool.{and-false}
 use Rattle.std.proofs.Math.Seq.{drop-length}
 use Rattle.std.specs.Prelude.{Option, Some as some, None as nothing}
 use borrow.Author.Tests.{le-leb, lt-leb}
@@ -14,10 +15,6 @@ use Rattle.sexp.specs.declared.tags.GoalForm.{GoalForm as GoalAnswer}
 use Rattle.sexp.specs.declared.tags.GoalForm.TheVariants.{Variable, Goal, GoalWith}
 use Rattle.sexp.specs.Never.{never}
 use Rattle.sexp.specs.TagTable.{row_of, row_in, tag_of_row, tag_answer, declaration_answer, goal_answer}
-
-and_not : (a : Bool) → a && false ≡ false
-and_not true = refl
-and_not false = refl
 
 and_yes : (a : Bool) → a && true ≡ a
 and_yes true = refl
@@ -34,11 +31,11 @@ within_any n e = rw e refl
 module _ {T : Type 0} (r : Row T) (x : List ℕ) (n : ℕ) where
   pub too_few : n < r.least → false ≡ fits r x n
   unfolding fits
-  too_few l = rw (lt-leb r.least n l) (sym (and_not (same r.name x)))
+  too_few l = rw (lt-leb r.least n l) (sym (and-false (same r.name x)))
 
   pub too_many : {m : ℕ} → r.most ≡ some m → m < n → false ≡ fits r x n
   unfolding fits within
-  too_many {m} e l = rw (e, lt-leb n m l, and_not (leb r.least n)) (sym (and_not (same r.name x)))
+  too_many {m} e l = rw (e, lt-leb n m l, and-false (leb r.least n)) (sym (and-false (same r.name x)))
 
   pub by_name : within r.most n ≡ true → r.least ≤ n → same r.name x ≡ fits r x n
   unfolding fits

@@ -3,9 +3,11 @@ ghost use Rattle.std.specs.Prelude.{◌≡◌, ◌++◌, ◌+◌, ◌*◌, ◌-�
 ghost use Rattle.rules.specs.Limits.{LENGTH};
 ghost use Rattle.rules.specs.Sexp.{read};
 ghost use Rattle.sexp.specs.Reads.{Clear, ReadRight, found};
+ghost use Rattle.sexp.specs.Through.{Legible};
 ghost use Rattle.sexp.specs.Whole.{EndsAs};
 
 use crate::lex::{atom_end, skip};
+use cells::clear;
 use questions::{Question, Refused};
 
 // A form that was read: the place behind it in the text, and the number of its cells.
@@ -33,19 +35,11 @@ fn close_list(words: &mut [u32], head: usize, count: usize) -> usize
     around
 }
 
-// Where a list is not read, the cells that it has so far become zero again, and the question is left.
-fn give_up(words: &mut [u32], cells: usize, question: Question) -> Result<Form, Question>
-    requires { cells ≤ length words.old }
-    ensures { (result ≡ Err question) × (words.new ≡ replicate cells 0 ++ drop cells words.old) }
-{
-    words[..cells].fill(0);
-    Err(question)
-}
-
-// Reads the list whose bracket is at a place. The outermost list has the first cell, which is zero already.
+// Reads the list whose bracket is at a place. The outermost list has the first cell, which is zero already. Where it is not read, the cells that
+// it has so far become zero again.
 fn read_list(text: &[u8], from: usize, words: &mut [u32]) -> Result<Form, Question>
     requires from_in_bounds { (from < length text.now) × (get_or text.now from 0 ≡ 40) }
-    requires text_len_bound { (length text.now ≤ LENGTH) × (length text.now ≤ length words.old) × Clear words.old }
+    requires legible { Legible text.now words.old }
     ensures { ReadRight text.now from words.old words.new (found result) }
 {
     let mut at = from + 1;
@@ -56,12 +50,14 @@ fn read_list(text: &[u8], from: usize, words: &mut [u32]) -> Result<Form, Questi
     loop {
         at = skip(text, at);
         if at >= text.len() {
-            return give_up(words, cells, Question::Brackets);
+            clear(&mut words[..cells]);
+            return Err(Question::Brackets);
         }
         let b = text[at];
         if b == b'(' {
             if depth == rules::DEPTH {
-                return give_up(words, cells, Question::Depth);
+                clear(&mut words[..cells]);
+                return Err(Question::Depth);
             }
             put(words, cells, open);
             open = cells;
@@ -85,8 +81,8 @@ fn read_list(text: &[u8], from: usize, words: &mut [u32]) -> Result<Form, Questi
 
 // Reads one form, from a place of the text on, into cells that are zero; they stay zero behind the form, and where none was read.
 pub fn read_form(text: &[u8], from: usize, words: &mut [u32]) -> Result<Option<Form>, Question>
-    requires from_in_bounds { (from ≤ length text.now) × (length text.now ≤ LENGTH) × (length text.now ≤ length words.old) }
-    requires clear { Clear words.old }
+    requires from_in_bounds { from ≤ length text.now }
+    requires legible { Legible text.now words.old }
     ensures { ReadRight text.now from words.old words.new result }
 {
     let at = skip(text, from);

@@ -2,6 +2,7 @@ use mathlib.Core.Path.{◌≡◌, refl, ◌∙◌}
 use lib.ListN.{get_or}
 use native.Mathlib.Omega.{arith}
 use Rattle.rules.specs.Lex.{kind, letter}
+use Rattle.cells.specs.Cleared.{front_cleared}
 use Rattle.questions.specs.declared.Question.TheVariants.{Brackets, Depth}
 use Rattle.sexp.proofs.ByteLaws.{letter_here}
 use Rattle.sexp.proofs.States as states
@@ -9,42 +10,26 @@ use Rattle.sexp.proofs.States.{State}
 use Rattle.sexp.proofs.sexp.read_list.Goals as goal
 
 pub overflow_add-at : goal.overflow_add-at
-overflow_add-at c = omega (arith, c.requires.from_in_bounds.0, c.requires.text_len_bound.0)
+overflow_add-at c = omega (arith, c.requires.from_in_bounds.0, c.requires.legible.short)
 
 pub loop-at-init : goal.loop-at-init
-loop-at-init c = (states.opened _ _ _ c.requires.from_in_bounds c.requires.text_len_bound, λ e. omega arith)
+loop-at-init c = (states.opened _ _ _ c.requires.from_in_bounds c.requires.legible, λ e. omega arith)
 
 pub skip-at-requires : goal.skip-at-requires
 skip-at-requires c = c.loop-at.invariant.0.high
 
-pub give_up-requires : goal.give_up-requires
-give_up-requires c = let here : State c.args.text.now c.args.from c.args.words.now c.loop-at.words c.skip-at.result c.loop-at.cells c.loop-at.depth c.loop-at.«open» = states.skipped c.loop-at.invariant.0 _ c.skip-at.ensures in
-    (states.used_most here).1
-
-pub shape_of-words-then-at-text : goal.shape_of-words-then-at-text
-shape_of-words-then-at-text c = let here : State c.args.text.now c.args.from c.args.words.now c.loop-at.words c.skip-at.result c.loop-at.cells c.loop-at.depth c.loop-at.«open» = states.skipped c.loop-at.invariant.0 _ c.skip-at.ensures in
-    c.give_up.auto.words ∙ states.same_length here
-
 pub returns-then-at-text : goal.returns-then-at-text
 returns-then-at-text c = let here : State c.args.text.now c.args.from c.args.words.now c.loop-at.words c.skip-at.result c.loop-at.cells c.loop-at.depth c.loop-at.«open» = states.skipped c.loop-at.invariant.0 _ c.skip-at.ensures in
-    rw c.give_up.ensures.0 (states.refused here Brackets states.brackets (states.unclosed here c.if-at-text.true c.loop-at.invariant.1) _ c.give_up.ensures.1)
+    states.refused here Brackets states.brackets (states.unclosed here c.if-at-text.true c.loop-at.invariant.1) _
+    (front_cleared 0 _ _ (states.used_most here).1 c.clear.ensures)
 
 pub bounds-text-at : goal.bounds-text-at
 bounds-text-at c = c.if-at-text.false
 
-pub give_up-requires-then-depth-eq-DEPTH : goal.give_up-requires-then-depth-eq-DEPTH
-give_up-requires-then-depth-eq-DEPTH c = let here : State c.args.text.now c.args.from c.args.words.now c.loop-at.words c.skip-at.result c.loop-at.cells c.loop-at.depth c.loop-at.«open» = states.skipped c.loop-at.invariant.0 _ c.skip-at.ensures in
-    (states.used_most here).1
-
-pub shape_of-words-then-depth-eq-DEPTH : goal.shape_of-words-then-depth-eq-DEPTH
-shape_of-words-then-depth-eq-DEPTH c = let here : State c.args.text.now c.args.from c.args.words.now c.loop-at.words c.skip-at.result c.loop-at.cells c.loop-at.depth c.loop-at.«open» = states.skipped c.loop-at.invariant.0 _ c.skip-at.ensures in
-    c.give_up-then-depth-eq-DEPTH.auto.words ∙ states.same_length here
-
 pub returns-then-depth-eq-DEPTH : goal.returns-then-depth-eq-DEPTH
 returns-then-depth-eq-DEPTH c = let here : State c.args.text.now c.args.from c.args.words.now c.loop-at.words c.skip-at.result c.loop-at.cells c.loop-at.depth c.loop-at.«open» = states.skipped c.loop-at.invariant.0 _ c.skip-at.ensures in
-    rw c.give_up-then-depth-eq-DEPTH.ensures.0
-    (states.refused here Depth (record { number = refl; detail = refl }) (states.too_deep here c.if-at-text.false c.if-b-eq40.true c.if-depth-eq-DEPTH.true) _
-    c.give_up-then-depth-eq-DEPTH.ensures.1)
+    states.refused here Depth (record { number = refl; detail = refl }) (states.too_deep here c.if-at-text.false c.if-b-eq40.true c.if-depth-eq-DEPTH.true) _
+    (front_cleared 0 _ _ (states.used_most here).1 c.clear-then-depth-eq-DEPTH.ensures)
 
 pub put-requires : goal.put-requires
 put-requires c = let here : State c.args.text.now c.args.from c.args.words.now c.loop-at.words c.skip-at.result c.loop-at.cells c.loop-at.depth c.loop-at.«open» = states.skipped c.loop-at.invariant.0 _ c.skip-at.ensures in
@@ -59,7 +44,7 @@ overflow_add-depth c = let here : State c.args.text.now c.args.from c.args.words
     omega (arith, here.most)
 
 pub overflow_add-at-then-b-eq40 : goal.overflow_add-at-then-b-eq40
-overflow_add-at-then-b-eq40 c = omega (arith, c.if-at-text.false, c.requires.text_len_bound.0)
+overflow_add-at-then-b-eq40 c = omega (arith, c.if-at-text.false, c.requires.legible.short)
 
 pub loop-at-smaller-then-b-eq40 : goal.loop-at-smaller-then-b-eq40
 loop-at-smaller-then-b-eq40 c = omega (arith, c.if-at-text.false, c.skip-at.ensures.low)
@@ -84,7 +69,7 @@ pub overflow_sub-depth : goal.overflow_sub-depth
 overflow_sub-depth c = omega (arith, c.loop-at.invariant.1)
 
 pub overflow_add-at-then-b-eq41 : goal.overflow_add-at-then-b-eq41
-overflow_add-at-then-b-eq41 c = omega (arith, c.if-at-text.false, c.requires.text_len_bound.0)
+overflow_add-at-then-b-eq41 c = omega (arith, c.if-at-text.false, c.requires.legible.short)
 
 pub shape_of-words-then-depth-eq0 : goal.shape_of-words-then-depth-eq0
 shape_of-words-then-depth-eq0 c = let here : State c.args.text.now c.args.from c.args.words.now c.loop-at.words c.skip-at.result c.loop-at.cells c.loop-at.depth c.loop-at.«open» = states.skipped c.loop-at.invariant.0 _ c.skip-at.ensures in
@@ -105,10 +90,10 @@ loop-at-preserved-else-depth-eq0 c = let here : State c.args.text.now c.args.fro
 )
 
 pub overflow_mul-at : goal.overflow_mul-at
-overflow_mul-at c = omega (arith, c.if-at-text.false, c.requires.text_len_bound.0)
+overflow_mul-at c = omega (arith, c.if-at-text.false, c.requires.legible.short)
 
 pub overflow_add-at-else-b-eq41 : goal.overflow_add-at-else-b-eq41
-overflow_add-at-else-b-eq41 c = omega (arith, c.if-at-text.false, c.requires.text_len_bound.0)
+overflow_add-at-else-b-eq41 c = omega (arith, c.if-at-text.false, c.requires.legible.short)
 
 pub put-requires-else-b-eq41 : goal.put-requires-else-b-eq41
 put-requires-else-b-eq41 c = let here : State c.args.text.now c.args.from c.args.words.now c.loop-at.words c.skip-at.result c.loop-at.cells c.loop-at.depth c.loop-at.«open» = states.skipped c.loop-at.invariant.0 _ c.skip-at.ensures in
