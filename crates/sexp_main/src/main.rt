@@ -3,9 +3,7 @@
 
 mod items;
 
-ghost use Rattle.std.specs.Prelude.{◌≤◌, length};
-ghost use Rattle.rules.specs.Limits.{LENGTH};
-ghost use Rattle.sexp.specs.Reads.{Clear};
+ghost use Rattle.sexp.specs.Through.{Legible};
 
 use crate::items::{Items, Part};
 use cells::clear;
@@ -35,8 +33,7 @@ fn show<W: Write>(out: &mut W, items: Items<'_>) -> io::Result<()> {
 
 // Writes a text's forms, up to its end or to a refusal, whose number it writes.
 fn show_all<W: Write>(out: &mut W, text: &[u8], words: &mut [u32]) -> io::Result<()>
-    requires text_len_bound { (length text.now ≤ LENGTH) × (length text.now ≤ length words.old) }
-    requires clear { Clear words.old }
+    requires { Legible text.now words.old }
 {
     let mut at = 0;
     // from form to form, which is no count; a form is read into lent cells, which no iterator could lend on
