@@ -27,13 +27,13 @@ fn replace_values(
     ensures changed_as { let s = store.old in let t = store.new in ChangedAs s.index.now s.words.now t.index.now t.words.now s.mark t.mark theta.old theta.new
         (in_values (replacement (made_of s) map.now) (bindings (made_of s) theta.old 0) (made_of s)) result }
 {
-    for v in 0..theta.len() {
-        let bound = theta[v] as usize;
+    for cell in theta.iter_mut() {
+        let bound = *cell as usize;
         if bound == 0 {
             continue;
         }
         let value = replace(store, map, memo, bound - 1)?;
-        theta[v] = (value + 1) as u32;
+        *cell = (value + 1) as u32;
     }
     Ok(())
 }

@@ -45,6 +45,7 @@ fn bind_next(
         x.map.now x.memo.now x.pairs.now y.pairs.now x.seen.now x.waiting y.waiting result }
     ensures unchanged { let x = scratch.old in let y = scratch.new in (y.map.now ≡ x.map.now) × (y.memo.now ≡ x.memo.now) × (y.seen.now ≡ x.seen.now) }
 {
+    // An arm each and no `?` behind the clearing: where the arms meet, what the memo holds is no longer known by its arm.
     let step = match peel(store, theta, scratch) {
         Ok(step) => step,
         Err(row) => {
