@@ -94,7 +94,12 @@ pub record RowPut (R Q : Records) (n : Sizes) (row hyps footing : List ℕ) : Ty
   pub footings : Q.footings ≡ sets R.footings (4 * n.facts) footing
   pub room : n.facts < FACTS
 
--- rows 12 and 13 of question 60: k entries more, of which the first are given
+-- rows 12 and 13 of question 60: one fact more, with k entries
+abbrev pub RoomAs : Sizes → ℕ → Result ℕ Row → Type 0
+RoomAs n k (Ok e) = (n.facts < FACTS) × (e ≡ n.entries + k) × (e ≤ ENTRIES)
+RoomAs n k (Err r) = (row_number r ≡ elim (ltb n.facts FACTS) [ true ↦ 13 | false ↦ 12 ]) × (n.facts < FACTS → ENTRIES < n.entries + k)
+
+-- and of the k entries the first are given
 abbrev pub PutAs : Records → Records → Sizes → List ℕ → List ℕ → List ℕ → ℕ → Result ℕ Row → Type 0
 PutAs R Q n row hyps footing k (Ok e) = RowPut R Q n row hyps footing × (e ≡ n.entries + k) × (e ≤ ENTRIES)
 PutAs R Q n row hyps footing k (Err r) = (Q ≡ R) × (row_number r ≡ elim (ltb n.facts FACTS) [ true ↦ 13 | false ↦ 12 ]) × (n.facts < FACTS → ENTRIES < n.entries + k)

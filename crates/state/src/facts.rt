@@ -6,7 +6,7 @@ ghost use Rattle.rules.specs.Limits.{FACTS, ENTRIES};
 ghost use Rattle.rules.specs.Find.{union, rising};
 ghost use Rattle.terms.specs.Sets.{holds};
 ghost use Rattle.state.specs.Held.{records};
-ghost use Rattle.state.specs.Rows.{cell, FactAt, FootingAt, hyps_span, premises_span, general_span, plain_row, Putting, PutAs};
+ghost use Rattle.state.specs.Rows.{cell, FactAt, FootingAt, hyps_span, premises_span, general_span, plain_row, Putting, RoomAs, PutAs};
 
 use crate::sizes::Sizes;
 use cells::Span;
@@ -129,7 +129,24 @@ fn put_footing(footings: &mut [u64], i: usize, footing: &[u64])
     footings[at..end].copy_from_slice(footing);
 }
 
+// Where the entries of one fact more end, so many of them, or the row that has no room.
+fn room(n: Sizes, many: usize) -> Result<usize, Row>
+    requires { (n.entries ≤ ENTRIES) × (many ≤ 2 ^ 32) }
+    ensures { RoomAs n many result }
+{
+    if n.facts >= rules::FACTS {
+        return Err(Row::Facts);
+    }
+    let end = n.entries + many;
+    if rules::ENTRIES < end {
+        return Err(Row::Entries);
+    }
+    Ok(end)
+}
+
 // A derived fact behind the others: its row, its hypotheses by rising number, its footing. The number of entries in use then, or the row that has no room.
+// No method of `Board`: it would have to say which tables of the board stay, the words for which stand in `forms`, above. So here and in `put_hypothesis`
+// the tables are lent one by one.
 pub fn put_derived(
     facts: &mut [u32],
     footings: &mut [u64],
@@ -145,16 +162,10 @@ pub fn put_derived(
         (judgment ∷ 0 ∷ n.entries ∷ length (rising FACTS (holds hyps.now)) ∷ 0 ∷ 0 ∷ []) (rising FACTS (holds hyps.now)) footing.now
         (length (rising FACTS (holds hyps.now))) result }
 {
+    let many = count(hyps);
+    let end = room(n, many)?;
     let i = n.facts;
     let from = n.entries;
-    if i >= rules::FACTS {
-        return Err(Row::Facts);
-    }
-    let many = count(hyps);
-    let end = from + many;
-    if rules::ENTRIES < end {
-        return Err(Row::Entries);
-    }
     put_row(facts, i, judgment, false, from, many, 0, 0);
     put_footing(footings, i, footing);
     write_out(hyps, &mut lists[from..]);
@@ -175,15 +186,9 @@ pub fn put_hypothesis(
     ensures { (footings : List ℕ) → length footings ≡ 4 * FACTS → PutAs (records facts.old footings lists.old) (records facts.new footings lists.new) n
         (judgment ∷ 1 ∷ n.entries ∷ 1 ∷ premises ∷ general ∷ []) (n.facts ∷ []) [] (1 + premises + general) result }
 {
+    let end = room(n, 1 + premises + general)?;
     let i = n.facts;
     let from = n.entries;
-    if i >= rules::FACTS {
-        return Err(Row::Facts);
-    }
-    let end = from + 1 + premises + general;
-    if rules::ENTRIES < end {
-        return Err(Row::Entries);
-    }
     put_row(facts, i, judgment, true, from, 1, premises, general);
     lists[from] = i as u32;
     Ok(end)
