@@ -3,10 +3,13 @@
 use Rattle.std.specs.Prelude.{◌≡◌, ◌≢◌, List, ℕ, ◌≤◌, ◌<◌, ◌⊎◌, Some as some, None as nothing, Option, Result, Ok, Err}
 use Rattle.rules.specs.Find.{Set}
 use Rattle.rules.specs.Sexp.{Sexp, Sexps, atom, cons}
+use Rattle.rules.specs.Out.{Out, ok, refuse}
+use Rattle.rules.specs.Store.{Made}
 use Rattle.rules.specs.Reference.{reference}
 use Rattle.sexp.specs.Items.{Holds}
 use Rattle.questions.specs.declared.Question.{Question}
 use Rattle.questions.specs.declared.Question.TheVariants.{Earlier, CaseJudgment}
+use Rattle.questions.specs.Numbers.{number_of, detail_of}
 use Rattle.kernel.specs.declared.rule_readers.Rules.{Rules}
 use Rattle.terms.specs.declared.store.Mark.{Mark}
 use Rattle.terms.specs.declared.store.Terms.{Terms}
@@ -109,3 +112,8 @@ SeenIn t seen set = Seen t.index.now t.words.now t.mark (holds seen) (holds set)
 
 abbrev pub GatheredIn : Terms → Set → List ℕ → List ℕ → List ℕ → Type 0
 GatheredIn t more before seen set = Gathered t.index.now t.words.now t.mark more (holds before) (holds seen) (holds set)
+
+-- Question 39: K answers, and makes nothing
+abbrev pub ScopedBy : Out Made (Unit {0}) → Made → Result (Unit {0}) Question → Type 0
+ScopedBy K M (Ok _) = K ≡ ok tt M
+ScopedBy K M (Err q) = K ≡ refuse (number_of q) (detail_of q) M

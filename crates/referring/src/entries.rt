@@ -26,7 +26,8 @@ impl<'a> Facts<'a> {
         Ok(())
     }
 
-    // The hypotheses of fact i.
+    // The hypotheses of fact i. These are three methods, as each names the field of the row that it reads; one with the reader handed in would have to carry
+    // what that promises.
     pub fn hyps(&self, i: usize) -> &'a [u32]
         requires { (footings : List ℕ) × RecallsFact self.now.rows.now footings self.now.lists.now i }
         ensures { result.now ≡ part self.now.lists.now (hyps_span self.now.rows.now i) }

@@ -30,7 +30,7 @@ pub struct Referred {
 
 impl Source<'_> {
     // The earlier fact that the first item numbers.
-    fn earlier(&self, cells: &[u32]) -> Result<usize, Question>
+    pub fn earlier(&self, cells: &[u32]) -> Result<usize, Question>
         requires { FirstItem self.now.reader.text.now cells.now }
         ensures { EarlierAs self.now cells.now result }
     {
@@ -74,7 +74,8 @@ impl Source<'_> {
             return Err(Question::Earlier);
         }
         let i = self.earlier(cells)?;
-        // Its row says whether there are any; of the entries themselves, which `Facts::hyps` would lend, nothing is asked here.
+        // Its row says whether there are any. `Facts::hyps` in its place would ask that the entries are right, and so would `reference` of each who calls
+        // it, which asks nothing of them.
         let own = hyps_of(self.rows, i);
         if own.from != own.end {
             return Err(Question::Instance);

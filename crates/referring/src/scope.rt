@@ -2,22 +2,26 @@
 // question a shared subterm is visited once; only a hypothesis that generalises variables is visited by itself.
 //
 // The terms that were visited (`seen`) and the set are lent as two: whoever asks keeps the set and hands it on, and drops the other. In a struct of
-// both each join, difference and search of sets would reach for its half.
+// both each join, difference and search of sets would reach for its half; and what was visited is right only beside the terms, so that no type can
+// state it.
 ghost use Rattle.std.specs.Prelude.{◌≡◌, [], ◌∷◌, ◌<◌, length};
 ghost use Rattle.rules.specs.Limits.{VARIABLEWORDS, FACTWORDS, TERMWORDS};
 ghost use Rattle.rules.specs.Find.{union, minus, rising, least};
 ghost use Rattle.rules.specs.Tree.{variables, variables_of};
+ghost use Rattle.rules.specs.Store.{Made};
 ghost use Rattle.rules.specs.State.{mentioned, free, hyp_vars};
+ghost use Rattle.rules.specs.Reference.{scoped};
 ghost use Rattle.terms.specs.Table.{tree, args_of};
 ghost use Rattle.terms.specs.Lent.{terms_made};
 ghost use Rattle.terms.specs.Sets.{holds, counted_from_1};
 ghost use Rattle.state.specs.Members.{Under};
 ghost use Rattle.referring.specs.Recall.{fact_of};
 ghost use Rattle.referring.specs.Derived.{cell_vars};
-ghost use Rattle.referring.specs.Sources.{RecallsIn, ReadableIn, ReadableCellsIn, SeenIn, GatheredIn};
+ghost use Rattle.referring.specs.Sources.{RecallsIn, ReadableIn, ReadableCellsIn, SeenIn, GatheredIn, ScopedBy};
 
 use crate::references::insert_all;
 use crate::source::Facts;
+use questions::Question;
 use rules::{FACTS, TERMWORDS, VARIABLEWORDS};
 use state::facts::judgment;
 use terms::sets::{count, lowest_outside, minus_from, union_into, write_out};
@@ -73,7 +77,8 @@ impl Facts<'_> {
         self.mention_free(terms, i, set);
     }
 
-    // The variables that are free in hypotheses join the set, one hypothesis after the other.
+    // The variables that are free in hypotheses join the set, one hypothesis after the other. There is no heap for a list of these: it is written into an
+    // array, with its count.
     fn join_hyps(&self, terms: &Terms<'_>, hyps: &[u64], seen: &mut [u64], set: &mut [u64])
         requires recalls { RecallsIn self.now terms.now × Under self.now.n.facts (holds hyps.now) }
         requires hyps_len { (length hyps.now ≡ FACTWORDS) × (length seen.old ≡ TERMWORDS) × (length set.old ≡ VARIABLEWORDS) }
@@ -124,6 +129,25 @@ impl Facts<'_> {
             return None;
         }
         Some(lowest)
+    }
+
+    // Question 39, as the definition puts it: the lowest variable that is outside is its detail, counted from 1.
+    pub fn scoped(
+        &self,
+        terms: &Terms<'_>,
+        used: &[u64],
+        conclusion: usize,
+        hyps: &[u64],
+    ) -> Result<(), Question>
+        requires recalls { RecallsIn self.now terms.now × Under self.now.n.facts (holds hyps.now) × (conclusion < terms.now.mark.terms) }
+        requires hyps_len { (length hyps.now ≡ FACTWORDS) × (length used.now ≡ VARIABLEWORDS) }
+        ensures { (g : RecallsIn self.now terms.now) (M : Made) → let t = terms.now in
+            ScopedBy (scoped g.S (holds used.now) (tree t.index.now t.words.now t.mark conclusion) (rising (length g.S.facts) (holds hyps.now)) M) M result }
+    {
+        match self.outside(terms, used, conclusion, hyps) {
+            None => Ok(()),
+            Some(v) => Err(Question::Scope(v + 1)),
+        }
     }
 }
 
