@@ -7,7 +7,7 @@ ghost use Rattle.rules.specs.Loop.{through, whole};
 ghost use Rattle.terms.specs.Lent.{SameTables};
 ghost use Rattle.state.specs.Stands.{tables_of};
 ghost use Rattle.forms.specs.Boards.{texts_of, theory_of, SameBoard};
-ghost use Rattle.beginning.specs.Posed.{theory_in, Posing, behind, Posed};
+ghost use Rattle.beginning.specs.Posed.{theory_in, Posing, Posed};
 
 use cells::clear;
 use questions::{Question, Refused};
@@ -15,13 +15,6 @@ use sexp::sexp::{read_all, read_form};
 use state::board::{Board, Given};
 use taking::take::take_goal;
 use terms::store::Store;
-
-// The question, left behind so many forms.
-fn left(question: Question, form: usize) -> Refused
-    ensures { result ≡ behind question form }
-{
-    Refused { question, form }
-}
 
 // The forms of the goals, one after the other, and question 25 behind them.
 fn take_goals(
@@ -45,18 +38,18 @@ fn take_goals(
             Ok(Some(form)) => form,
             Ok(None) => break,
             // a text that was read whole before is not refused here
-            Err(question) => return Err(left(question, forms)),
+            Err(question) => return Err(question.behind(forms)),
         };
         let taken = take_goal(given, board, store, &cells[..form.cells]);
         clear(&mut cells[..form.cells]);
         if let Err(question) = taken {
-            return Err(left(question, forms));
+            return Err(question.behind(forms));
         }
         forms += 1;
         at = form.end;
     }
     if board.n.goals == 0 {
-        return Err(left(Question::NoGoal, forms));
+        return Err(Question::NoGoal.behind(forms));
     }
     Ok(())
 }

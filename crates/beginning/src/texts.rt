@@ -3,7 +3,7 @@ ghost use Rattle.std.specs.Prelude.{◌≡◌, Bool, List, ℕ};
 ghost use Rattle.rules.specs.Check.{first_failing};
 ghost use Rattle.beginning.specs.Asking.{number_in, left_in, AskedAs};
 
-use questions::{Question, Refused, Text};
+use questions::{Question, Text};
 use running::stopped::Stopped;
 use sexp::lex::{plain, short};
 
@@ -39,7 +39,7 @@ fn left(text: Text, question: Question) -> Stopped
 {
     Stopped {
         text,
-        refused: Refused { question, form: 0 },
+        refused: question.behind(0),
     }
 }
 

@@ -121,10 +121,7 @@ pub fn finish(
     if many != 0 {
         return Err(Refusal::from(Stopped {
             text: Text::Proof,
-            refused: Refused {
-                question: Question::MissingResults(many),
-                form: forms,
-            },
+            refused: Question::MissingResults(many).behind(forms),
         }));
     }
     Ok(Report {

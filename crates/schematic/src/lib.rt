@@ -25,7 +25,7 @@ use beginning::texts::Texts;
 use counts::{Counts, add};
 use facts::{Fact, append_if, zero_behind};
 use kernel::tables::{Counts as Held, Tables};
-use questions::{Question, Refused, Text};
+use questions::{Question, Text};
 use running::finish::{Refusal, Report, finish};
 use running::stopped::Stopped;
 use state::board::{Board, Given};
@@ -56,13 +56,9 @@ fn prove(
             Ok(Some(step)) => step,
             Ok(None) => return Ok(forms),
             Err(question) => {
-                let refused = Refused {
-                    question,
-                    form: forms,
-                };
                 return Err(Stopped {
                     text: Text::Proof,
-                    refused,
+                    refused: question.behind(forms),
                 });
             }
         };

@@ -14,7 +14,7 @@ pub returns-in-Err-clause-ran : goal.returns-in-Err-clause-ran
 returns-in-Err-clause-ran c =
     let x = c.loop-step.invariant.0 in
     let o = c.in-Err.ensures.advanced (ready x) in
-    ran x c.next_form.new.board c.next_form.new.store c.next_form.ensures.stay _ o.0 o.1
+    rw c.behind.ensures (ran x c.next_form.new.board c.next_form.new.store c.next_form.ensures.stay _ o.0 o.1)
 
 pub append_if-requires : goal.append_if-requires
 append_if-requires c =

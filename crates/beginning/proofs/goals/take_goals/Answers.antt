@@ -7,7 +7,7 @@ pub loop-form-init : goal.loop-form-init
 loop-form-init c = (turn_first c.requires, search, search)
 
 pub returns-in-Err-clause-posed : goal.returns-in-Err-clause-posed
-returns-in-Err-clause-posed c = rw c.left.ensures (turn_fails c.loop-form.invariant.0 c.read_form.ensures c.in-Err.is).0
+returns-in-Err-clause-posed c = rw c.behind.ensures (turn_fails c.loop-form.invariant.0 c.read_form.ensures c.in-Err.is).0
 
 pub take_goal-taken-requires : goal.take_goal-taken-requires
 take_goal-taken-requires c = turn_takes c.loop-form.invariant.0 c.read_form.ensures (rw c.in-Ok-Some.field-0-is at c.in-Ok-Some.is)
@@ -15,7 +15,7 @@ take_goal-taken-requires c = turn_takes c.loop-form.invariant.0 c.read_form.ensu
 pub returns-in-Err-taken-clause-posed : goal.returns-in-Err-taken-clause-posed
 returns-in-Err-taken-clause-posed c =
     let e = rw c.in-Ok-Some.field-0-is at c.in-Ok-Some.is in
-    rw c.left-in-Err-taken.ensures
+    rw c.behind-in-Err-taken.ensures
     (turn_refused c.loop-form.invariant.0 c.read_form.ensures e c.take_goal-taken.new.board c.take_goal-taken.new.store _
     (c.in-Err-taken.ensures.taken_as (turn_takes c.loop-form.invariant.0 c.read_form.ensures e)))
 
@@ -37,7 +37,7 @@ loop-form-preserved c =
 
 pub returns-then-board-eq0-clause-posed : goal.returns-then-board-eq0-clause-posed
 returns-then-board-eq0-clause-posed c =
-    rw c.left-then-board-eq0.ensures (turn_no_goals c.loop-form.invariant.0 c.read_form.ensures (rw c.in-Ok-None.field-0-is at c.in-Ok-None.is) c.if-board-eq0.true).0
+    rw c.behind-then-board-eq0.ensures (turn_no_goals c.loop-form.invariant.0 c.read_form.ensures (rw c.in-Ok-None.field-0-is at c.in-Ok-None.is) c.if-board-eq0.true).0
 
 pub returns-clause-posed : goal.returns-clause-posed
 returns-clause-posed c =
