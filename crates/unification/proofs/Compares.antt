@@ -1,24 +1,24 @@
 -- What two terms of good tables ask for, by their heads and the numbers of their arguments. Assumes nothing.
 use mathlib.Core.Path.{◌≡◌, sym, ap, ◌∙◌, subst}
 use mathlib.Core.Bool.{Bool, true, false}
-use mathlib.Core.List.{List}
-use Prim.Native.Nat.{ℕ, ◌+◌, ◌-◌, ◌≤◌, ◌<◌}
+use mathlib.Core.List.{List, [], ◌∷◌}
+use Prim.Native.Nat.{ℕ, suc, ◌-◌, ◌≤◌, ◌<◌}
 use native.Mathlib.Omega.{arith}
-use lib.ListN.{get_or}
+use lib.ListN.{length, get_or, take, drop}
+use lib.Seq.{take_all}
 use lib.Dec.{eqb}
 use borrow.Author.Tests.{eq-eqb, ne_eqb}
 use Rattle.rules.specs.Limits.{SYMBOLS, VARIABLES}
 use Rattle.rules.specs.Tree.{Tree, Trees, var, app, variables, count_trees}
 use Rattle.rules.specs.Laws.Tree.{same_eq, not_same}
+use Rattle.rules.specs.Store.{Made}
 use Rattle.rules.specs.Laws.Store.{Apart}
 use Rattle.rules.specs.Unify.{Look, agree, clash, binds, parts, bind_or_clash, differ, look}
 use Rattle.terms.specs.declared.store.Mark.{Mark}
 use Rattle.unification.specs.declared.pairs.Asks.{Asks}
-use Rattle.terms.specs.Table.{run, start, args_of, made, Good, tree}
-use Rattle.unification.specs.Pairs.{Searchable, Comparable, BindsTo, PartsAt, Answered}
-use Rattle.terms.specs.Laws.Runs.{run_length}
-use Rattle.terms.specs.Laws.Tables.{length_trees, args_count}
-use Rattle.terms.specs.Laws.Terms.{variable_small, node_rise, node_narrow, node_within, node_inside, term_app, term_var, args_below}
+use Rattle.terms.specs.Table.{start, args_of, tree_at, node_at, made, Shaped, is_var, is_app, Good, tree}
+use Rattle.unification.specs.Pairs.{Searchable, Comparable, BindsTo, PartsAre, Answered}
+use Rattle.terms.specs.Laws.Tables.{length_trees, args_count, shaped_some, tree_here, tree_app, tree_var, node_length}
 
 -- The definition by cases ----------------------------------------------------------------------------------------------------------
 
@@ -72,6 +72,31 @@ module _ (I W : List ℕ) (m : Mark) (seen : List ℕ) (x id : ℕ) (q : Searcha
   pub bind_to : x < VARIABLES → (r : Bool) → r ≡ variables (tree I W m id) x → r ≡ false → BindsTo I W m (bind_or_clash x (tree I W m id)) x id
   bind_to h r e z = record { asks = bind_binds _ _ r e z; small = h; there = q.there }
 
+-- A term by its words -----------------------------------------------------------------------------------------------------------------
+
+-- the words behind the head
+abbrev behind : List ℕ → List ℕ
+behind w = take (length w - 1) (drop 1 w)
+
+behind_is : (x : ℕ) (xs : List ℕ) → behind (x ∷ xs) ≡ xs
+behind_is x xs = take_all (length (x ∷ xs) - 1) xs (omega arith)
+
+word_var : (M : Made) (n : ℕ) {w : List ℕ} → Shaped n w → SYMBOLS ≤ get_or w 0 0 → (tree_at M w ≡ var (get_or w 0 0 - SYMBOLS)) × (get_or w 0 0 - SYMBOLS < VARIABLES)
+word_var M n (is_var {h = h} p u) l = (tree_var M h [] l, omega (arith, p, u))
+word_var M n (is_app {h = h} {xs = xs} p b) l = absurd (omega (arith, p, l))
+
+word_app : (M : Made) (n : ℕ) {w : List ℕ} → Shaped n w → get_or w 0 0 < SYMBOLS → tree_at M w ≡ app (get_or w 0 0) (args_of M (behind w))
+word_app M n (is_var {h = h} p u) l = absurd (omega (arith, p, l))
+word_app M n (is_app {h = h} {xs = xs} p b) l = tree_app M h xs l ∙ ap (λ (ys : List ℕ). app h (args_of M ys)) (sym (behind_is h xs))
+
+word_args : (n : ℕ) {w : List ℕ} → Shaped n w → get_or w 0 0 < SYMBOLS → (k : ℕ) → k < length (behind w) → get_or (behind w) k 0 < n
+word_args n (is_var {h = h} p u) l = absurd (omega (arith, p, l))
+word_args n (is_app {h = h} {xs = xs} p b) l = subst (λ (ys : List ℕ). (k : ℕ) → k < length ys → get_or ys k 0 < n) (sym (behind_is h xs)) b
+
+word_count : (n : ℕ) {w : List ℕ} → Shaped n w → suc (length (behind w)) ≡ length w
+word_count n (is_var {h = h} p u) = ap (λ (ys : List ℕ). suc (length ys)) (behind_is h [])
+word_count n (is_app {h = h} {xs = xs} p b) = ap (λ (ys : List ℕ). suc (length ys)) (behind_is h xs)
+
 -- Two terms --------------------------------------------------------------------------------------------------------------------------
 
 trees_apart : (I W : List ℕ) (m : Mark) → Good I W m → (s t : ℕ) → s < m.terms → t < m.terms → (s ≡ t → ⊥) → tree I W m s ≡ tree I W m t → ⊥
@@ -85,72 +110,70 @@ module _ (I W : List ℕ) (m : Mark) (seen : List ℕ) (s t : ℕ) (q : Comparab
   differs : (s ≡ t → ⊥) → look (tree I W m s) (tree I W m t) ≡ differ (tree I W m s) (tree I W m t)
   differs n = look_differ _ _ (trees_apart I W m q.left.good s t q.left.there q.right.there n)
 
-  module _ (n : s ≡ t → ⊥) (a : ℕ) (e : a ≡ start I s) where
-    pub left_asks : SYMBOLS ≤ get_or W a 0 → Searchable I W m seen t × (get_or W a 0 - SYMBOLS < VARIABLES)
-    left_asks p = (q.right, variable_small I W m q.left.good s q.left.there a e p)
+  module _ (n : s ≡ t → ⊥) (w : List ℕ) (e : w ≡ node_at I W s) where
+    left_shaped : Shaped s w
+    left_shaped = subst (Shaped s) (sym e) (q.left.good.shaped s q.left.there)
 
-    pub left_binds : SYMBOLS ≤ get_or W a 0 → (r : Asks) → Answered I W m (bind_or_clash (get_or W a 0 - SYMBOLS) (tree I W m t)) r → Answered I W m (look (tree I W m s) (tree I W m t)) r
-    left_binds p r = subst (λ (L : Look). Answered I W m L r) (sym (differs n ∙ differ_left _ _ _ (term_var I W m q.left.good s q.left.there a e p)))
+    left_tree : tree I W m s ≡ tree_at (made I W m) w
+    left_tree = tree_here I W m q.left.good s q.left.there ∙ ap (tree_at (made I W m)) (sym e)
 
-    module _ (p : get_or W a 0 < SYMBOLS) (b : ℕ) (f : b ≡ start I t) where
-      pub right_asks : SYMBOLS ≤ get_or W b 0 → Searchable I W m seen s × (get_or W b 0 - SYMBOLS < VARIABLES)
-      right_asks r = (q.left, variable_small I W m q.right.good t q.right.there b f r)
+    pub left_some : 0 < length w
+    left_some = shaped_some s left_shaped
 
-      left_is : tree I W m s ≡ app (get_or W a 0) (args_of (made I W m) (run W (a + 1) (get_or I s 0 - (a + 1))))
-      left_is = term_app I W m q.left.good s q.left.there a e p
+    pub left_asks : SYMBOLS ≤ get_or w 0 0 → Searchable I W m seen t × (get_or w 0 0 - SYMBOLS < VARIABLES)
+    left_asks p = (q.right, (word_var (made I W m) s left_shaped p).1)
 
-      pub right_binds : SYMBOLS ≤ get_or W b 0 → (r : Asks) → Answered I W m (bind_or_clash (get_or W b 0 - SYMBOLS) (tree I W m s)) r → Answered I W m (look (tree I W m s) (tree I W m t)) r
+    pub left_binds : SYMBOLS ≤ get_or w 0 0 → (r : Asks) → Answered I W m (bind_or_clash (get_or w 0 0 - SYMBOLS) (tree I W m t)) r → Answered I W m (look (tree I W m s) (tree I W m t)) r
+    left_binds p r = subst (λ (L : Look). Answered I W m L r) (sym (differs n ∙ differ_left _ _ _ (left_tree ∙ (word_var (made I W m) s left_shaped p).0)))
+
+    module _ (p : get_or w 0 0 < SYMBOLS) (u : List ℕ) (f : u ≡ node_at I W t) where
+      right_shaped : Shaped t u
+      right_shaped = subst (Shaped t) (sym f) (q.right.good.shaped t q.right.there)
+
+      right_tree : tree I W m t ≡ tree_at (made I W m) u
+      right_tree = tree_here I W m q.right.good t q.right.there ∙ ap (tree_at (made I W m)) (sym f)
+
+      pub right_some : 0 < length u
+      right_some = shaped_some t right_shaped
+
+      pub right_asks : SYMBOLS ≤ get_or u 0 0 → Searchable I W m seen s × (get_or u 0 0 - SYMBOLS < VARIABLES)
+      right_asks r = (q.left, (word_var (made I W m) t right_shaped r).1)
+
+      left_is : tree I W m s ≡ app (get_or w 0 0) (args_of (made I W m) (behind w))
+      left_is = left_tree ∙ word_app (made I W m) s left_shaped p
+
+      pub right_binds : SYMBOLS ≤ get_or u 0 0 → (r : Asks) → Answered I W m (bind_or_clash (get_or u 0 0 - SYMBOLS) (tree I W m s)) r → Answered I W m (look (tree I W m s) (tree I W m t)) r
       right_binds o r =
-          subst (λ (L : Look). Answered I W m L r) (sym (differs n ∙ differ_right _ _ _ _ _ left_is (term_var I W m q.right.good t q.right.there b f o)))
+          subst (λ (L : Look). Answered I W m L r) (sym (differs n ∙ differ_right _ _ _ _ _ left_is (right_tree ∙ (word_var (made I W m) t right_shaped o).0)))
 
-      module _ (o : get_or W b 0 < SYMBOLS) where
-        right_is : tree I W m t ≡ app (get_or W b 0) (args_of (made I W m) (run W (b + 1) (get_or I t 0 - (b + 1))))
-        right_is = term_app I W m q.right.good t q.right.there b f o
+      module _ (o : get_or u 0 0 < SYMBOLS) where
+        right_is : tree I W m t ≡ app (get_or u 0 0) (args_of (made I W m) (behind u))
+        right_is = right_tree ∙ word_app (made I W m) t right_shaped o
 
-        pub heads_clash : (get_or W a 0 ≡ get_or W b 0 → ⊥) → look (tree I W m s) (tree I W m t) ≡ clash
+        pub heads_clash : (get_or w 0 0 ≡ get_or u 0 0 → ⊥) → look (tree I W m s) (tree I W m t) ≡ clash
         heads_clash h = differs n ∙ differ_heads _ _ _ _ _ _ left_is right_is h
 
-        left_count : count_trees (args_of (made I W m) (run W (a + 1) (get_or I s 0 - (a + 1)))) ≡ get_or I s 0 - (a + 1)
-        left_count =
-            let y = node_rise I W m q.left.good s q.left.there a e in
-            let z = node_inside I W m q.left.good s q.left.there a e in
-            args_count (made I W m) (run W (a + 1) (get_or I s 0 - (a + 1))) ∙ run_length W (a + 1) (get_or I s 0 - (a + 1)) (omega arith)
+        left_count : count_trees (args_of (made I W m) (behind w)) ≡ length (behind w)
+        left_count = args_count (made I W m) (behind w)
 
-        right_count : count_trees (args_of (made I W m) (run W (b + 1) (get_or I t 0 - (b + 1)))) ≡ get_or I t 0 - (b + 1)
-        right_count =
-            let y = node_rise I W m q.right.good t q.right.there b f in
-            let z = node_inside I W m q.right.good t q.right.there b f in
-            args_count (made I W m) (run W (b + 1) (get_or I t 0 - (b + 1))) ∙ run_length W (b + 1) (get_or I t 0 - (b + 1)) (omega arith)
+        right_count : count_trees (args_of (made I W m) (behind u)) ≡ length (behind u)
+        right_count = args_count (made I W m) (behind u)
 
-        pub counts_clash : get_or W a 0 ≡ get_or W b 0 → (get_or I t 0 - b ≡ get_or I s 0 - a → ⊥) → look (tree I W m s) (tree I W m t) ≡ clash
+        pub counts_clash : get_or w 0 0 ≡ get_or u 0 0 → (length w ≡ length u → ⊥) → look (tree I W m s) (tree I W m t) ≡ clash
         counts_clash h d =
-            let y = node_rise I W m q.left.good s q.left.there a e in
-            let z = node_rise I W m q.right.good t q.right.there b f in
-            differs n ∙ differ_counts _ _ _ _ _ _ left_is right_is h (λ w. let x = left_count in let u = right_count in d (omega arith))
+            differs n ∙ differ_counts _ _ _ _ _ _ left_is right_is h (λ x. d (sym (word_count s left_shaped) ∙ ap suc (sym left_count ∙ x ∙ right_count) ∙ word_count t right_shaped))
 
-        pub parts_at : get_or W a 0 ≡ get_or W b 0 → get_or I t 0 - b ≡ get_or I s 0 - a → PartsAt I W m (look (tree I W m s) (tree I W m t)) (a + 1) (b + 1) (get_or I s 0 - a - 1)
-        parts_at h d =
-            let y = node_rise I W m q.left.good s q.left.there a e in
-            let z = node_rise I W m q.right.good t q.right.there b f in
-            let u = node_within I W m q.left.good s q.left.there a e in
-            let v = node_within I W m q.right.good t q.right.there b f in
-            let w = node_narrow I W m q.left.good s q.left.there a e in
-            let g : get_or I s 0 - (a + 1) ≡ get_or I s 0 - a - 1 = omega arith in
-            let k : get_or I t 0 - (b + 1) ≡ get_or I s 0 - a - 1 = omega arith in
-            let x : get_or I s 0 - (a + 1) ≡ get_or I t 0 - (b + 1) = omega arith in
+        pub parts_are : get_or w 0 0 ≡ get_or u 0 0 → length w ≡ length u → PartsAre I W m (look (tree I W m s) (tree I W m t)) (behind w) (behind u)
+        parts_are h d =
+            let x : suc (length (behind w)) ≡ length w = word_count s left_shaped in
+            let y : suc (length (behind u)) ≡ length u = word_count t right_shaped in
+            let z : length (behind w) ≡ length (behind u) = omega arith in
+            let l : length w ≡ get_or I s 0 - start I s = ap length e ∙ node_length I W m q.left.good s q.left.there in
+            let k = q.left.good.narrow s q.left.there in
             record {
-              asks =
-                  differs n ∙ differ_parts _ _ _ _ _ _ left_is right_is h (left_count ∙ x ∙ sym right_count)
-                  ∙ (λ i. parts (args_of (made I W m) (run W (a + 1) (g i))) (args_of (made I W m) (run W (b + 1) (k i))));
-              left = omega arith;
-              right = omega arith;
+              asks = differs n ∙ differ_parts _ _ _ _ _ _ left_is right_is h (left_count ∙ z ∙ sym right_count);
+              even = sym z;
               few = omega arith;
-              lefts = λ j l.
-                  let c = args_below I W m q.left.good s q.left.there a e p (a + 1 + j) (omega arith) (omega arith) in
-                  let r = q.left.there in
-                  omega arith;
-              rights = λ j l.
-                  let c = args_below I W m q.right.good t q.right.there b f o (b + 1 + j) (omega arith) (omega arith) in
-                  let r = q.right.there in
-                  omega arith;
+              lefts = λ j l. let c = word_args s left_shaped p j l in let r = q.left.there in omega arith;
+              rights = λ j l. let c = word_args t right_shaped o j l in let r = q.right.there in omega arith;
             }

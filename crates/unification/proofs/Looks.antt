@@ -6,7 +6,8 @@ use Prim.Native.Nat.{ℕ, zero, suc, ◌+◌, ◌*◌, ◌≤◌, ◌<◌}
 use native.Mathlib.Omega.{arith}
 use native.Mathlib.Decide.{ℕ_discrete}
 use lib.ListN.{length, get_or, set, length-set}
-use lib.Seq.{get_or-set_same, get_or-set_other}
+use Rattle.std.proofs.Common.{Bor}
+use lib.Seq.{take_all, get_or-set_same, get_or-set_other}
 use lib.Dec.{leb}
 use borrow.Author.Tests.{le-leb, lt-leb}
 use Rattle.rules.specs.Limits.{PAIRS}
@@ -17,10 +18,9 @@ use Rattle.rules.specs.Unify.{Pair, Look, agree, clash, binds, parts, push, Foun
 use Rattle.terms.specs.declared.store.Mark.{Mark}
 use Rattle.unification.specs.declared.pairs.Asks.{Asks}
 use Rattle.unification.specs.declared.pairs.Asks.TheVariants.{Parts}
-use Rattle.terms.specs.Table.{run, args_of, made}
-use Rattle.unification.specs.Pairs.{PartsAt, Answered, waits, piled}
+use Rattle.terms.specs.Table.{args_of, made}
+use Rattle.unification.specs.Pairs.{PartsAre, Answered, waits, piled}
 use Rattle.unification.specs.Peel.{Lookable, more, OntoPairs, Crowded}
-use Rattle.terms.specs.Laws.Runs.{run_length}
 use Rattle.terms.specs.Laws.Tables.{args_count}
 use Rattle.unification.proofs.Waits.{waits_piled, length_piled}
 
@@ -63,16 +63,16 @@ module _ (go : List Pair → Act Made Found) (w : List Pair) (L : Look) (M : Mad
 -- The cells --------------------------------------------------------------------------------------------------------------------------
 
 -- the cells of all pairs have terms that are there
-piled_below : (W : List ℕ) (a b : ℕ) (P : List ℕ) (w n l : ℕ) → 2 * (w + n) ≤ length P → ((k : ℕ) → k < 2 * w → get_or P k 0 < l) → ((k : ℕ) → k < n → get_or W (a + k) 0 < l)
-    → ((k : ℕ) → k < n → get_or W (b + k) 0 < l) → (i : ℕ) → i < 2 * (w + n) → get_or (piled W a b P w n) i 0 < l
+piled_below : (xs ys P : List ℕ) (w n l : ℕ) → 2 * (w + n) ≤ length P → ((k : ℕ) → k < 2 * w → get_or P k 0 < l) → ((k : ℕ) → k < n → get_or xs k 0 < l)
+    → ((k : ℕ) → k < n → get_or ys k 0 < l) → (i : ℕ) → i < 2 * (w + n) → get_or (piled xs ys P w n) i 0 < l
 unfolding piled
-piled_below W a b P w zero l h p f g i q = p i (omega arith)
-piled_below W a b P w (suc n) l h p f g i q =
-    let Q = piled W a b P w n in
-    let x = get_or W (a + n) 0 in
-    let y = get_or W (b + n) 0 in
+piled_below xs ys P w zero l h p f g i q = p i (omega arith)
+piled_below xs ys P w (suc n) l h p f g i q =
+    let Q = piled xs ys P w n in
+    let x = get_or xs n 0 in
+    let y = get_or ys n 0 in
     let R = set Q (2 * (w + n)) x in
-    let long : length Q ≡ length P = length_piled W a b P w n in
+    let long : length Q ≡ length P = length_piled xs ys P w n in
     let long' : length R ≡ length Q = length-set Q (2 * (w + n)) x in
     let left = f n (omega arith) in
     let right = g n (omega arith) in
@@ -82,7 +82,7 @@ piled_below W a b P w (suc n) l h p f g i q =
           elim (ℕ_discrete i (2 * (w + n))) [
             | yes e ↦ (let u : get_or R i 0 ≡ x = ap (λ (k : ℕ). get_or R k 0) e ∙ get_or-set_same Q (2 * (w + n)) x 0 (omega arith) in omega arith)
             | no o ↦ (let u : get_or R i 0 ≡ get_or Q i 0 = get_or-set_other Q (2 * (w + n)) i x 0 o in
-                let ih = piled_below W a b P w n l (omega arith) p (λ k r. f k (omega arith)) (λ k r. g k (omega arith)) i (omega arith) in
+                let ih = piled_below xs ys P w n l (omega arith) p (λ k r. f k (omega arith)) (λ k r. g k (omega arith)) i (omega arith) in
                 omega arith)
           ])
     ]
@@ -90,30 +90,41 @@ piled_below W a b P w (suc n) l h p f g i q =
 -- The answers ------------------------------------------------------------------------------------------------------------------------
 
 module _ (I W : List ℕ) (m : Mark) (P seen : List ℕ) (w s t : ℕ) (q : Lookable I W m P seen w s t) (L : Look) (r : Asks) (d : Answered I W m L r) where
-  module _ (a b n : ℕ) (e : r ≡ Parts a b n) where
-    asks : PartsAt I W m L a b n
+  module _ (a b : Bor (List ℕ)) (e : r ≡ Parts a b) where
+    abbrev xs : List ℕ
+    xs = a.now
+
+    abbrev ys : List ℕ
+    ys = b.now
+
+    asks : PartsAre I W m L xs ys
     asks = subst (Answered I W m L) e d
 
-    left_in : a + n ≤ length W
-    left_in = let x = asks.left in let y = q.both.left.good.within in let z = q.both.left.good.words in omega arith
+    count : count_trees (args_of (made I W m) xs) ≡ length xs
+    count = args_count (made I W m) xs
 
-    right_in : b + n ≤ length W
-    right_in = let x = asks.right in let y = q.both.left.good.within in let z = q.both.left.good.words in omega arith
-
-    count : count_trees (args_of (made I W m) (run W a n)) ≡ n
-    count = args_count (made I W m) (run W a n) ∙ run_length W a n left_in
-
-    pub look_crowd : PAIRS < w + n → Crowded w L
+    pub look_crowd : PAIRS < w + length xs → Crowded w L
     look_crowd h = let z = count in record { lefts = _; rights = _; asks = asks.asks; full = omega arith }
 
-    module _ (h : w + n ≤ PAIRS) where
-      pub look_more : (P' : List ℕ) → P' ≡ piled W a b P w n → OntoPairs I W m P P' w (w + n) L
+    module _ (h : w + length xs ≤ PAIRS) where
+      pub look_asks : (length ys ≡ length xs) × (2 * (w + length xs) ≤ length P)
+      look_asks = let z = q.many in (asks.even, omega arith)
+
+      onto : waits (made I W m) (piled xs ys P w (length xs)) (w + length xs) ≡ push (args_of (made I W m) xs) (args_of (made I W m) ys) (waits (made I W m) P w)
+      onto =
+          let z = q.many in
+          let e = asks.even in
+          waits_piled (made I W m) xs ys P w (length xs) (omega arith) (omega arith) (omega arith)
+          ∙ (λ i. push (args_of (made I W m) (take_all (length xs) xs (omega arith) i)) (args_of (made I W m) (take_all (length xs) ys (omega (arith, e)) i)) (waits (made I W m) P w))
+
+      pub look_more : (P' : List ℕ) → P' ≡ piled xs ys P w (length xs) → OntoPairs I W m P P' w (w + length xs) L
       look_more P' f =
           let z = q.many in
           let y = count in
-          subst (λ (p : List ℕ). OntoPairs I W m P p w (w + n) L) (sym f)
+          let e = asks.even in
+          subst (λ (p : List ℕ). OntoPairs I W m P p w (w + length xs) L) (sym f)
           record {
-            onto = more (args_of (made I W m) (run W a n)) (args_of (made I W m) (run W b n)) asks.asks (omega arith) (waits_piled (made I W m) W a b P w n left_in right_in (omega arith));
+            onto = more (args_of (made I W m) xs) (args_of (made I W m) ys) asks.asks (omega arith) onto;
             few = h;
-            there = piled_below W a b P w n m.terms (omega arith) q.there asks.lefts asks.rights;
+            there = piled_below xs ys P w (length xs) m.terms (omega arith) q.there asks.lefts (λ k l. asks.rights k (omega arith));
           }

@@ -4,14 +4,13 @@ use mathlib.Core.Path.{◌≡◌, refl, sym, ap, ◌∙◌}
 use mathlib.Core.List.{List, [], ◌∷◌, ◌++◌}
 use Prim.Native.Nat.{ℕ, zero, suc, ◌+◌, ◌*◌, ◌≤◌, ◌<◌}
 use native.Mathlib.Omega.{arith}
-use lib.ListN.{length, get_or, drop, set, length-set, length-drop}
-use lib.Seq.{take-suc, get_or-drop, get_or-set_same, get_or-set_other}
+use lib.ListN.{length, get_or, take, set, length-set}
+use lib.Seq.{take-suc, length-take-le, get_or-set_same, get_or-set_other}
 use Rattle.rules.specs.Tree.{var}
 use Rattle.rules.specs.Store.{Made}
 use Rattle.rules.specs.Unify.{Pair, push}
-use Rattle.terms.specs.Table.{run, args_of}
+use Rattle.terms.specs.Table.{args_of}
 use Rattle.unification.specs.Pairs.{waits, piled}
-use Rattle.terms.specs.Laws.Runs.{run_length}
 
 -- Pairs that wait ------------------------------------------------------------------------------------------------------------------
 
@@ -37,18 +36,13 @@ push_last M [] (b ∷ ys) x y q e = absurd (omega arith)
 push_last M (a ∷ xs) [] x y q e = absurd (omega arith)
 push_last M (a ∷ xs) (b ∷ ys) x y q e = push_last M xs ys x y (record { left = get_or M a (var 0); right = get_or M b (var 0) } ∷ q) (omega arith)
 
-run_last : (W : List ℕ) (a n : ℕ) → a + suc n ≤ length W → run W a (suc n) ≡ run W a n ++ (get_or W (a + n) 0 ∷ [])
-run_last W a n h =
-    let z = length-drop a W in
-    take-suc (drop a W) n 0 (omega arith) ∙ ap (λ (x : ℕ). run W a n ++ (x ∷ [])) (get_or-drop a W n 0)
-
-pub length_piled : (W : List ℕ) (a b : ℕ) (P : List ℕ) (w n : ℕ) → length (piled W a b P w n) ≡ length P
+pub length_piled : (xs ys P : List ℕ) (w n : ℕ) → length (piled xs ys P w n) ≡ length P
 unfolding piled
-length_piled W a b P w zero = refl
-length_piled W a b P w (suc k) =
-    length-set (set (piled W a b P w k) (2 * (w + k)) (get_or W (a + k) 0)) (2 * (w + k) + 1) (get_or W (b + k) 0)
-    ∙ length-set (piled W a b P w k) (2 * (w + k)) (get_or W (a + k) 0)
-    ∙ length_piled W a b P w k
+length_piled xs ys P w zero = refl
+length_piled xs ys P w (suc k) =
+    length-set (set (piled xs ys P w k) (2 * (w + k)) (get_or xs k 0)) (2 * (w + k) + 1) (get_or ys k 0)
+    ∙ length-set (piled xs ys P w k) (2 * (w + k)) (get_or xs k 0)
+    ∙ length_piled xs ys P w k
 
 -- two cells are written, and those below are as they were
 module _ (P : List ℕ) (j x y : ℕ) (h : j + 1 < length P) where
@@ -61,23 +55,23 @@ module _ (P : List ℕ) (j x y : ℕ) (h : j + 1 < length P) where
   two_second : get_or (set (set P j x) (j + 1) y) (j + 1) 0 ≡ y
   two_second = let z = length-set P j x in get_or-set_same (set P j x) (j + 1) y 0 (omega arith)
 
-pub waits_piled : (M : Made) (W : List ℕ) (a b : ℕ) (P : List ℕ) (w n : ℕ) → a + n ≤ length W → b + n ≤ length W → 2 * (w + n) ≤ length P
-    → waits M (piled W a b P w n) (w + n) ≡ push (args_of M (run W a n)) (args_of M (run W b n)) (waits M P w)
+pub waits_piled : (M : Made) (xs ys P : List ℕ) (w n : ℕ) → n ≤ length xs → n ≤ length ys → 2 * (w + n) ≤ length P
+    → waits M (piled xs ys P w n) (w + n) ≡ push (args_of M (take n xs)) (args_of M (take n ys)) (waits M P w)
 unfolding waits piled push args_of
-waits_piled M W a b P w zero f g h = let z : w + 0 ≡ w = omega arith in ap (waits M P) z
-waits_piled M W a b P w (suc n) f g h =
-    let Q = piled W a b P w n in
-    let x = get_or W (a + n) 0 in
-    let y = get_or W (b + n) 0 in
+waits_piled M xs ys P w zero f g h = let z : w + 0 ≡ w = omega arith in ap (waits M P) z
+waits_piled M xs ys P w (suc n) f g h =
+    let Q = piled xs ys P w n in
+    let x = get_or xs n 0 in
+    let y = get_or ys n 0 in
     let R = set (set Q (2 * (w + n)) x) (2 * (w + n) + 1) y in
-    let l = length_piled W a b P w n in
+    let l = length_piled xs ys P w n in
     let z : w + suc n ≡ suc (w + n) = omega arith in
-    let ih = waits_piled M W a b P w n (omega arith) (omega arith) (omega arith) in
+    let ih = waits_piled M xs ys P w n (omega arith) (omega arith) (omega arith) in
     let c = two_first Q (2 * (w + n)) x y (omega arith) in
     let d = two_second Q (2 * (w + n)) x y (omega arith) in
     let u = waits_by M M Q R (w + n) (λ i p. ap (λ (k : ℕ). get_or M k (var 0)) (two_below Q (2 * (w + n)) x y (omega arith) i p)) in
-    let ra = run_length W a n (omega arith) in
-    let rb = run_length W b n (omega arith) in
+    let ra = length-take-le n xs (omega arith) in
+    let rb = length-take-le n ys (omega arith) in
     ap (waits M R) z
     ∙ (λ i. record { left = get_or M (c i) (var 0); right = get_or M (d i) (var 0) } ∷ (u ∙ ih) i)
-    ∙ sym ((λ i. push (args_of M (run_last W a n f i)) (args_of M (run_last W b n g i)) (waits M P w)) ∙ push_last M (run W a n) (run W b n) x y (waits M P w) (omega arith))
+    ∙ sym ((λ i. push (args_of M (take-suc xs n 0 f i)) (args_of M (take-suc ys n 0 g i)) (waits M P w)) ∙ push_last M (take n xs) (take n ys) x y (waits M P w) (omega arith))

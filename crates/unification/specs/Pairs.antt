@@ -8,7 +8,7 @@ use Rattle.rules.specs.Unify.{Pair, Look, agree, clash, binds, parts}
 use Rattle.terms.specs.declared.store.Mark.{Mark}
 use Rattle.unification.specs.declared.pairs.Asks.{Asks}
 use Rattle.unification.specs.declared.pairs.Asks.TheVariants.{Nothing, Clash, Binds, Parts}
-use Rattle.terms.specs.Table.{run, args_of, made, Good, tree}
+use Rattle.terms.specs.Table.{args_of, made, Good, tree}
 
 -- What two terms ask for ---------------------------------------------------------------------------------------------------------
 
@@ -29,20 +29,19 @@ pub record BindsTo (I W : List ℕ) (m : Mark) (L : Look) (x u : ℕ) : Type 0 w
   pub small : x < VARIABLES
   pub there : u < m.terms
 
--- n arguments from a on and from b on
-pub record PartsAt (I W : List ℕ) (m : Mark) (L : Look) (a b n : ℕ) : Type 0 where
-  pub asks : L ≡ parts (args_of (made I W m) (run W a n)) (args_of (made I W m) (run W b n))
-  pub left : a + n ≤ m.words
-  pub right : b + n ≤ m.words
-  pub few : n ≤ ARGUMENTS
-  pub lefts : (k : ℕ) → k < n → get_or W (a + k) 0 < m.terms
-  pub rights : (k : ℕ) → k < n → get_or W (b + k) 0 < m.terms
+-- the arguments xs and ys
+pub record PartsAre (I W : List ℕ) (m : Mark) (L : Look) (xs ys : List ℕ) : Type 0 where
+  pub asks : L ≡ parts (args_of (made I W m) xs) (args_of (made I W m) ys)
+  pub even : length ys ≡ length xs
+  pub few : length xs ≤ ARGUMENTS
+  pub lefts : (k : ℕ) → k < length xs → get_or xs k 0 < m.terms
+  pub rights : (k : ℕ) → k < length ys → get_or ys k 0 < m.terms
 
 abbrev pub Answered : List ℕ → List ℕ → Mark → Look → Asks → Type 0
 Answered I W m L Nothing = L ≡ agree
 Answered I W m L Clash = L ≡ clash
 Answered I W m L (Binds x u) = BindsTo I W m L x u
-Answered I W m L (Parts a b n) = PartsAt I W m L a b n
+Answered I W m L (Parts xs ys) = PartsAre I W m L xs.now ys.now
 
 -- Pairs --------------------------------------------------------------------------------------------------------------------------
 
@@ -51,7 +50,7 @@ unfoldable pub waits : Made → List ℕ → ℕ → List Pair
 waits M P zero = []
 waits M P (suc n) = record { left = get_or M (get_or P (2 * n) 0) (var 0); right = get_or M (get_or P (2 * n + 1) 0) (var 0) } ∷ waits M P n
 
--- k pairs more above w, of the words from a on and from b on
-unfoldable pub piled : List ℕ → ℕ → ℕ → List ℕ → ℕ → ℕ → List ℕ
-piled W a b P w zero = P
-piled W a b P w (suc k) = set (set (piled W a b P w k) (2 * (w + k)) (get_or W (a + k) 0)) (2 * (w + k) + 1) (get_or W (b + k) 0)
+-- k pairs more above w, of the numbers in xs and in ys
+unfoldable pub piled : List ℕ → List ℕ → List ℕ → ℕ → ℕ → List ℕ
+piled xs ys P w zero = P
+piled xs ys P w (suc k) = set (set (piled xs ys P w k) (2 * (w + k)) (get_or xs k 0)) (2 * (w + k) + 1) (get_or ys k 0)

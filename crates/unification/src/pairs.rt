@@ -14,22 +14,15 @@ use terms::variables::occurs;
 
 // What two terms ask for: nothing, as they are one; no unifier exists; a variable bound to a term; or their arguments, pair by pair.
 #[derive(Clone, Copy, Debug, PartialEq, Eq)]
-pub enum Asks {
+pub enum Asks<'a> {
     Nothing,
     Clash,
-    Binds {
-        variable: usize,
-        term: usize,
-    },
-    Parts {
-        left: usize,
-        right: usize,
-        count: usize,
-    },
+    Binds { variable: usize, term: usize },
+    Parts { left: &'a [u32], right: &'a [u32] },
 }
 
 // The variable `x` is bound to the term `id`, unless it occurs there. `seen` is scratch: zero before and after.
-fn bind(terms: &Terms<'_>, x: usize, id: usize, seen: &mut [u64]) -> Asks
+fn bind<'a>(terms: &Terms<'_>, x: usize, id: usize, seen: &mut [u64]) -> Asks<'a>
     requires { let t = terms.now in Searchable t.index.now t.words.now t.mark seen.old id × (x < VARIABLES) }
     ensures answered { let t = terms.now in Answered t.index.now t.words.now t.mark (bind_or_clash x (tree t.index.now t.words.now t.mark id)) result }
     ensures seen_unchanged { seen.new ≡ seen.old }
@@ -44,7 +37,7 @@ fn bind(terms: &Terms<'_>, x: usize, id: usize, seen: &mut [u64]) -> Asks
 }
 
 // What the terms `s` and `t` ask for. `seen` is scratch: zero before and after.
-pub fn compare(terms: &Terms<'_>, s: usize, t: usize, seen: &mut [u64]) -> Asks
+pub fn compare<'a>(terms: &'a Terms<'_>, s: usize, t: usize, seen: &mut [u64]) -> Asks<'a>
     requires { let m = terms.now in Comparable m.index.now m.words.now m.mark seen.old s t }
     ensures answered { let m = terms.now in Answered m.index.now m.words.now m.mark (look (tree m.index.now m.words.now m.mark s) (tree m.index.now m.words.now m.mark t)) result }
     ensures seen_unchanged { seen.new ≡ seen.old }
@@ -52,45 +45,43 @@ pub fn compare(terms: &Terms<'_>, s: usize, t: usize, seen: &mut [u64]) -> Asks
     if s == t {
         return Asks::Nothing;
     }
-    let left = terms.start_of(s);
-    let head = terms.words[left] as usize;
+    let left = terms.node(s);
+    let head = left[0] as usize;
     if SYMBOLS <= head {
         return bind(terms, head - SYMBOLS, t, seen);
     }
-    let right = terms.start_of(t);
-    let other = terms.words[right] as usize;
+    let right = terms.node(t);
+    let other = right[0] as usize;
     if SYMBOLS <= other {
         return bind(terms, other - SYMBOLS, s, seen);
     }
     if head != other {
         return Asks::Clash;
     }
-    let count = terms.index[s] as usize - left;
-    if terms.index[t] as usize - right != count {
+    if left.len() != right.len() {
         return Asks::Clash;
     }
     Asks::Parts {
-        left: left + 1,
-        right: right + 1,
-        count: count - 1,
+        left: &left[1..],
+        right: &right[1..],
     }
 }
 
 impl Scratch<'_> {
-    // Pairs of `count` words from `left` on and from `right` on come onto those that wait.
-    pub(crate) fn push(&mut self, words: &[u32], left: usize, right: usize, count: usize)
-        requires { (left + count ≤ length words.now) × (right + count ≤ length words.now) × (2 * (self.old.waiting + count) ≤ length self.old.pairs.now) }
+    // The words of `left` come onto those that wait, each with that of `right`.
+    pub(crate) fn push(&mut self, left: &[u32], right: &[u32])
+        requires { (length right.now ≡ length left.now) × (2 * (self.old.waiting + length left.now) ≤ length self.old.pairs.now) }
         ensures same_cells { SameCells self.old self.new }
-        ensures pairs { self.new.pairs.now ≡ piled words.now left right self.old.pairs.now self.old.waiting count }
-        ensures waiting { self.new.waiting ≡ self.old.waiting + count }
+        ensures pairs { self.new.pairs.now ≡ piled left.now right.now self.old.pairs.now self.old.waiting (length left.now) }
+        ensures waiting { self.new.waiting ≡ self.old.waiting + length left.now }
         ensures unchanged { let x = self.old in let y = self.new in (y.map.now ≡ x.map.now) × (y.memo.now ≡ x.memo.now) × (y.seen.now ≡ x.seen.now) }
     {
         let from = self.waiting;
-        for k in 0..count {
+        for (k, word) in left.iter().enumerate() {
             let at = 2 * (from + k);
-            self.pairs[at] = words[left + k];
-            self.pairs[at + 1] = words[right + k];
+            self.pairs[at] = *word;
+            self.pairs[at + 1] = right[k];
         }
-        self.waiting = from + count;
+        self.waiting = from + left.len();
     }
 }

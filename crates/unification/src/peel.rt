@@ -51,11 +51,11 @@ fn onward(terms: &Terms<'_>, s: usize, t: usize, scratch: &mut Scratch<'_>) -> R
         Asks::Nothing => Ok(Step::Done),
         Asks::Clash => Ok(Step::Clash),
         Asks::Binds { variable, term } => Ok(Step::Binds { variable, term }),
-        Asks::Parts { left, right, count } => {
-            if PAIRS < scratch.waiting + count {
+        Asks::Parts { left, right } => {
+            if PAIRS < scratch.waiting + left.len() {
                 return Err(Row::Pairs);
             }
-            scratch.push(terms.words, left, right, count);
+            scratch.push(left, right);
             Ok(Step::Done)
         }
     }

@@ -10,5 +10,5 @@ invariant-loop-k l =
     record {
       same : SameScratch x y;
       unchanged : (y.map.now ≡ x.map.now) × (y.memo.now ≡ x.memo.now) × (y.seen.now ≡ x.seen.now);
-      piling : Piling l.words l.left l.right l.count x.pairs.now l.from y.pairs.now l.k;
+      piling : Piling l.left l.right x.pairs.now l.from y.pairs.now l.k;
     }
