@@ -10,13 +10,12 @@ use Rattle.rules.specs.Limits.{LENGTH, RULES, RULEVARS, PATTERNS}
 use Rattle.rules.specs.Text.{same}
 use Rattle.rules.specs.Find.{first}
 use Rattle.rules.specs.Out.{refuse}
-use Rattle.rules.specs.Sexp.{Sexps, list, item, count as item_count, Name}
+use Rattle.rules.specs.Sexp.{Sexps, item, Name}
 use Rattle.rules.specs.Tree.{count_trees}
 use Rattle.rules.specs.Theory.{Theory, Symbol, Rule, rule_named}
 use Rattle.rules.specs.Laws.Theory.{empty}
 use Rattle.rules.specs.TheoryTables.{rows, prefix, prefixes, pattern_row, rule_var_row}
 use Rattle.rules.specs.Declare.{schema, add_rule}
-use Rattle.sexp.specs.Items.{Holds}
 use Rattle.sexp.specs.NameRows.{NameRows}
 use Rattle.kernel.specs.Held.{Form, SomeSymbolsHeld}
 use Rattle.kernel.specs.Reading.{VarsHeld, ReadSoFar, Written, Stopped}
@@ -30,7 +29,7 @@ use Rattle.kernel.proofs.Spellings.{Proper, Nameless}
 use Rattle.sexp.specs.FoundLaws.{found_at, found_missing, names_of, first_name}
 use Rattle.kernel.proofs.Vars.{vars_few, vars_filled}
 use Rattle.kernel.proofs.Schemas.{written_kept}
-use Rattle.kernel.proofs.Ruling.{begun, rule_of, rule_stopped, rule_unnamed, rule_twice, rule_full, rule_new, premise_list}
+use Rattle.kernel.proofs.Ruling.{begun, rule_of, rule_stopped, rule_unnamed, rule_twice, rule_full, rule_new}
 use Rattle.kernel.specs.RuleRows.{rule_name, rules_rows}
 use Rattle.kernel.proofs.RuleStore.{rules_kept, count_few}
 
@@ -105,11 +104,7 @@ module _ {text rules vars P table M : List ℕ} {count used variables last : ℕ
                   (subst (λ z. RulesHeld text rules z M count used T.rules) (sym k.3) held_still);
             }
 
-    module _ {form : List ℕ} (k : Holds text form xs) (n : 4 ≡ item_count xs) {premises : ℕ}
-        (a : (t : List ℕ) (ys zs : Sexps) → Holds t form ys → 4 ≡ item_count ys → item ys 2 ≡ list zs → premises ≡ item_count zs) where
-      counted : count_trees w.tree.0 ≡ premises
-      counted = let q = premise_list T xs (begun T) w.now w.tree w.is in q.many ∙ sym (a text xs q.items k n q.is)
-
+    module _ {premises : ℕ} (counted : count_trees w.tree.0 ≡ premises) where
       pub rule_is : RuleIs text M rule_now s e variables premises used last table
       unfolding rule_var_row pattern_row
       rule_is =

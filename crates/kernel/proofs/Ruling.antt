@@ -1,5 +1,5 @@
 -- The questions of a rule's declaration one at a time, as code puts them, and how many premises it has. Assumes nothing.
-use mathlib.Core.Path.{◌≡◌, refl, sym, ap, ◌∙◌}
+use mathlib.Core.Path.{◌≡◌, refl, ap, ◌∙◌}
 use Prim.Native.Nat.{ℕ, suc, ◌<◌, ◌≤◌}
 use Rattle.std.specs.Prelude.{Some as some, None as nothing}
 use mathlib.Core.List.{[]}
@@ -8,12 +8,11 @@ use lib.ListN.{length}
 use borrow.Author.Tests.{lt-ltb, le-ltb}
 use Rattle.rules.specs.Limits.{RULES}
 use Rattle.rules.specs.Out.{Out, ok, refuse, then, ask, room, beside}
-use Rattle.rules.specs.Sexp.{Sexp, Sexps, atom, list, nil, cons, count, item, Name}
+use Rattle.rules.specs.Sexp.{Sexps, nil, cons, count, item, Name}
 use Rattle.rules.specs.Tree.{Tree, Trees, none, more, count_trees}
 use Rattle.rules.specs.Theory.{Theory, Rule, rule_named, rule_words}
-use Rattle.rules.specs.Declare.{Reading, is_new, proper_name, predicated, judgment, judgments, schema, add_rule}
+use Rattle.rules.specs.Declare.{Reading, is_new, proper_name, judgment, judgments, schema, add_rule}
 use Rattle.rules.specs.Laws.Declaring.{proper, proper_asks}
-use Rattle.rules.specs.Laws.PatternSteps.{schema_no_premises, schema_stopped, schema_no_conclusion, schema_asks}
 use Rattle.kernel.specs.HeldRules.{with_rule}
 use Rattle.sexp.specs.Never.{never}
 
@@ -74,7 +73,7 @@ module _ (T : Theory) (xs : Sexps) where
 -- The number of premises ---------------------------------------------------------------------------------------------------------
 
 -- one judgment for each item
-judged_count : (T : Theory) (zs : Sexps) (R U : Reading) (ts : Trees) → judgments T zs R ≡ ok ts U → count_trees ts ≡ count zs
+pub judged_count : (T : Theory) (zs : Sexps) (R U : Reading) (ts : Trees) → judgments T zs R ≡ ok ts U → count_trees ts ≡ count zs
 unfolding judgments count_trees count then
 judged_count T nil R U ts e = let z : ts ≡ none = cc in ap count_trees z
 judged_count T (cons x xs) R U ts e = go (λ Y W us. judged_count T xs Y W us) (judgment T x R) e
@@ -87,29 +86,3 @@ judged_count T (cons x xs) R U ts e = go (λ Y W us. judged_count T xs Y W us) (
         on : (o : Out Reading Trees) → judgments T xs Y ≡ o → then o (λ us W. ok (more t us) W) ≡ ok ts U → count_trees ts ≡ suc (count xs)
         on (refuse n d W) h k = never cc
         on (ok us W) h k = let z : ts ≡ more t us = cc in ap count_trees z ∙ ap suc (f Y W us h)
-
--- the premises of a rule that was read are the items of a list
-pub record PremiseList (xs : Sexps) (ps : Trees) : Type 0 where
-  pub items : Sexps
-  pub is : item xs 2 ≡ list items
-  pub many : count_trees ps ≡ count items
-
-pub premise_list : (T : Theory) (xs : Sexps) (R U : Reading) (p : Trees × Tree) → schema T xs R ≡ ok p U → PremiseList xs p.0
-unfolding then
-premise_list T xs R U p e = go (item xs 2) refl
-  where
-    go : (x : Sexp) → item xs 2 ≡ x → PremiseList xs p.0
-    go (atom q bs) f = never (let z : refuse 11 0 R ≡ ok p U = sym (schema_no_premises R T xs q bs f) ∙ e in cc)
-    go (list ys) f = read (judgments T ys R) refl
-      where
-        read : (o : Out Reading Trees) → judgments T ys R ≡ o → PremiseList xs p.0
-        read (refuse n d Y) g = never (let z : refuse n d Y ≡ ok p U = sym (schema_stopped R T xs ys f n d Y g) ∙ e in cc)
-        read (ok ps Y) g = last (item xs 3) refl
-          where
-            last : (x : Sexp) → item xs 3 ≡ x → PremiseList xs p.0
-            last (atom q bs) h = never (let z : refuse 11 0 Y ≡ ok p U = sym (schema_no_conclusion R T xs ys f ps Y g q bs h) ∙ e in cc)
-            last (list zs) h = end (predicated T zs Y) (sym (schema_asks R T xs ys f ps Y g zs h) ∙ e)
-              where
-                end : (o : Out Reading Tree) → then o (λ c W. ok (ps, c) W) ≡ ok p U → PremiseList xs p.0
-                end (refuse n d W) k = never cc
-                end (ok c W) k = let z : (ps, c) ≡ p = cc in record { items = ys; is = f; many = ap (λ q. count_trees q.0) (sym z) ∙ judged_count T ys R Y ps g }

@@ -1,13 +1,13 @@
 -- The premises and the conclusion of a rule, one behind the other: what their reader answers. Assumes nothing.
-use mathlib.Core.Path.{◌≡◌, refl, ap, ◌∙◌}
+use mathlib.Core.Path.{◌≡◌, refl, sym, ap, ◌∙◌}
 use Prim.Native.Nat.{ℕ, ◌-◌, ◌<◌, ◌≤◌}
 use mathlib.Core.List.{List, ◌++◌}
 use native.Mathlib.Omega.{arith}
 use lib.ListN.{length, take, drop}
 use Rattle.rules.specs.Limits.{PATTERNS}
 use Rattle.rules.specs.Out.{Out, ok, then}
-use Rattle.rules.specs.Sexp.{Sexp, Sexps, list, item, count}
-use Rattle.rules.specs.Tree.{Trees}
+use Rattle.rules.specs.Sexp.{Sexp, Sexps, item, count}
+use Rattle.rules.specs.Tree.{Tree, Trees}
 use Rattle.rules.specs.Theory.{Theory}
 use Rattle.rules.specs.TheoryTables.{prefix, prefixes}
 use Rattle.rules.specs.Laws.Row.{append_assoc}
@@ -19,11 +19,9 @@ use Rattle.sexp.specs.WalkLaws.{AtomIs, ListIs, nth_list}
 use Rattle.sexp.specs.declared.items.Item.{Item}
 use Rattle.sexp.specs.declared.items.Item.TheVariants.{List as Part}
 use Rattle.kernel.specs.Held.{Form}
-use Rattle.kernel.specs.Reading.{Written, Stopped, PatternRead, Patterning}
-use Rattle.kernel.specs.HeldRules.{schema_cells, Beginning}
-use Rattle.std.specs.Prelude.{Result, Ok, Err}
-use Rattle.questions.specs.declared.Question.{Question}
-use Rattle.sexp.specs.Never.{never}
+use Rattle.kernel.specs.Reading.{Written, Stopped, Patterning}
+use Rattle.kernel.specs.HeldRules.{Beginning, SchemaWritten}
+use Rattle.kernel.proofs.Ruling.{judged_count}
 use Rattle.kernel.proofs.Trees.{kept_front, longer}
 
 -- a list among the items of a form
@@ -77,20 +75,25 @@ module _ {text : List ℕ} (T : Theory) (R : Reading) (xs : Sexps) where
         so_far : schema T xs R ≡ then (predicated T j.items w.now) (λ t W. ok (w.tree, t) W)
         so_far = schema_asks R T xs l.items l.is w.tree w.now w.is j.items j.is
 
-        pub schema_read : (table' : List ℕ) (v : ℕ) (Q : List ℕ) (y : ℕ) (r : Result (Unit {0}) Question) →
-            PatternRead prefix text table' v M Q m y (predicated T j.items w.now) r →
-            PatternRead schema_cells text table' v P Q used y (schema T xs R) r
+        pub schema_read : {table' : List ℕ} {v : ℕ} {Q : List ℕ} {y premises : ℕ} → Written prefix text table' M Q m (predicated T j.items w.now) v y →
+            premises ≡ count l.items → SchemaWritten text table' P Q used (schema T xs R) v premises y
         unfolding then
-        schema_read table' v Q y (Ok u) q =
+        schema_read q c =
             record {
-              tree = (w.tree, q.tree);
-              now = q.now;
-              is = so_far ∙ ap (λ z. then z (λ t W. ok (w.tree, t) W)) q.is;
-              reads = q.reads;
-              words = q.words ∙ ap (λ z. z ++ prefix q.tree) w.words ∙ append_assoc (take used P) (prefixes w.tree) (prefix q.tree);
-              long = q.long ∙ w.long;
+              written = record {
+                tree = (w.tree, q.tree);
+                now = q.now;
+                is = so_far ∙ ap (λ z. then z (λ t W. ok (w.tree, t) W)) q.is;
+                reads = q.reads;
+                words = q.words ∙ ap (λ z. z ++ prefix q.tree) w.words ∙ append_assoc (take used P) (prefixes w.tree) (prefix q.tree);
+                long = q.long ∙ w.long;
+              };
+              many = judged_count T l.items R w.now w.tree w.is ∙ sym c;
             }
-        schema_read table' v Q y (Err e) q =
+
+        pub schema_cut : {Q : List ℕ} {x d : ℕ} → Stopped M Q m (predicated T j.items w.now) x d → Stopped P Q used (schema T xs R) x d
+        unfolding then
+        schema_cut {Q} q =
             let g : m ≤ length M = omega (arith, w.reads.room, w.long, long) in
             let o : used ≤ length P = omega (arith, u, long) in
             record {
@@ -100,14 +103,7 @@ module _ {text : List ℕ} (T : Theory) (R : Reading) (xs : Sexps) where
               long = q.long ∙ w.long;
             }
 
--- The number of premises ---------------------------------------------------------------------------------------------------------
-
-pub no_atom : {A : Type 0} {text : List ℕ} {x : Sexp} {p : ℕ} {ys : Sexps} → AtomIs text x p → x ≡ list ys → A
-no_atom f e = let q = f.is in never cc
-
-pub same_items : {text words : List ℕ} {x : Sexp} {a b n : ℕ} {ys : Sexps} → ListIs text words x a b → x ≡ list ys →
-    ((zs : Sexps) → take (b - a) (drop a words) ≡ encodes zs → n ≡ count zs) → n ≡ count ys
-same_items {ys = ys} l e f =
-    let q = l.is in
-    let z : l.items ≡ ys = cc in
-    f l.items l.holds.cells ∙ ap count z
+-- the same of the tables that were lent
+pub schema_lent : {text row row' P M M' : List ℕ} {used variables premises words : ℕ} {given : Out Reading (Trees × Tree)} →
+    SchemaWritten text row P M used given variables premises words → row' ≡ row → M' ≡ M → SchemaWritten text row' P M' used given variables premises words
+schema_lent w e f = rw (e, f) w

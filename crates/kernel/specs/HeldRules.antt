@@ -31,18 +31,24 @@ pub record Beginning (text items symbols inputs : List ℕ) (known : ℕ) (row :
   pub reads : ReadSoFar text row count used so_far
   pub long : room ≡ PATTERNS
 
+-- the words of a rule behind those before, and how many premises it has
+pub record SchemaWritten (text row before after : List ℕ) (used : ℕ) (given : Out Reading (Trees × Tree)) (variables premises words : ℕ) : Type 0 where
+  pub written : Written schema_cells text row before after used given variables words
+  pub many : count_trees written.tree.0 ≡ premises
+
 -- text, then the row of variables, the words before and after, and how many of them were used
 abbrev pub SchemaRead : List ℕ → List ℕ → List ℕ → List ℕ → ℕ → Out Reading (Trees × Tree) → Result RuleSize Question → Type 0
-SchemaRead text row before after used given (Ok s) = Written schema_cells text row before after used given s.variables s.words
+SchemaRead text row before after used given (Ok s) = SchemaWritten text row before after used given s.variables s.premises s.words
 SchemaRead text row before after used given (Err e) = Stopped before after used given (number_of e) (detail_of e)
+
+-- of the reader before and after
+abbrev pub SchemaPart : RuleReader → RuleReader → Out Reading (Trees × Tree) → Result ℕ Question → Type 0
+SchemaPart s t given (Ok n) = SchemaWritten s.known.text.now t.vars.now s.patterns.now t.patterns.now s.used given t.count n t.used
+SchemaPart s t given (Err e) = Stopped s.patterns.now t.patterns.now s.used given (number_of e) (detail_of e)
 
 abbrev pub BeginningAt : RuleReader → List ℕ → Type 0
 BeginningAt s form =
     Beginning s.known.text.now form s.known.rows.now s.known.inputs.now s.known.count s.vars.now s.count (length s.patterns.now) s.used
-
--- a rule's form, of whatever text
-abbrev pub SomeForm : List ℕ → Type 0
-SomeForm items = (text : List ℕ) × Form text items 4
 
 -- The tables ---------------------------------------------------------------------------------------------------------------------
 

@@ -1,12 +1,12 @@
 // Rules: the premises and the conclusion of a declaration, and the rows that are stored when all of it is taken.
 ghost use Rattle.std.specs.Prelude.{◌≡◌, ℕ, List, length};
-ghost use Rattle.rules.specs.Sexp.{Sexps, list, item, count as items};
+ghost use Rattle.rules.specs.Sexp.{Sexps, count as items};
 ghost use Rattle.rules.specs.Theory.{Theory, Rule};
 ghost use Rattle.rules.specs.Declare.{Reading, schema, add_rule};
 ghost use Rattle.sexp.specs.Items.{Holds};
 ghost use Rattle.kernel.specs.Held.{Form, SymbolsHeld, SomeSymbolsHeld};
-ghost use Rattle.kernel.specs.Reading.{SameTables, Knows, ReadTo, ReadSoFar, PartRead};
-ghost use Rattle.kernel.specs.HeldRules.{schema_cells, Beginning, BeginningAt, SchemaRead, SomeForm, RulesHeld, SomeRules, RuleFits, RuleIs, RulePut, RuleAdded};
+ghost use Rattle.kernel.specs.Reading.{SameTables, Knows, ReadTo, ReadSoFar};
+ghost use Rattle.kernel.specs.HeldRules.{Beginning, BeginningAt, SchemaRead, SchemaPart, RulesHeld, SomeRules, RuleFits, RuleIs, RulePut, RuleAdded};
 
 use crate::atoms::put_name;
 use crate::names::SymbolTable;
@@ -20,29 +20,32 @@ use sexp::items::Item;
 use sexp::names::named;
 
 impl RuleReader<'_, '_> {
-    // The words of the premises, then those of the conclusion, and the variables into an empty row.
-    fn schema(&mut self, form: &[u32]) -> Result<(), Question>
+    // The words of the premises, then those of the conclusion, and the variables into an empty row: the number of premises.
+    fn schema(&mut self, form: &[u32]) -> Result<usize, Question>
         requires { BeginningAt self.old form.now }
         ensures same_tables { SameTables self.old self.new }
         ensures read { (T : Theory) (R : Reading) (xs : Sexps) → Knows self.old.known T.symbols → ReadTo self.old R →
             Holds self.old.known.text.now form.now xs → 4 ≡ items xs →
-            PartRead schema_cells self.old self.new (schema T xs R) result }
+            SchemaPart self.old self.new (schema T xs R) result }
     {
         let Item::List(a, b) = items::nth(form, 2) else {
             return Err(Question::Declared);
         };
-        self.premises(&form[a..b])?;
+        let premises = &form[a..b];
+        self.premises(premises)?;
         let Item::List(a, b) = items::nth(form, 3) else {
             return Err(Question::Declared);
         };
-        self.judgment(&form[a..b])
+        self.judgment(&form[a..b])?;
+        Ok(items::count(premises))
     }
 }
 
-// How many variables a rule has, and how many words are used with its own.
+// How many variables and premises a rule has, and how many words are used with its own.
 #[derive(Clone, Copy)]
 pub struct RuleSize {
     pub variables: usize,
+    pub premises: usize,
     pub words: usize,
 }
 
@@ -66,22 +69,12 @@ fn read_rule(
         patterns,
         used,
     };
-    reader.schema(form)?;
+    let premises = reader.schema(form)?;
     Ok(RuleSize {
         variables: reader.count,
+        premises,
         words: reader.used,
     })
-}
-
-// The number of premises of a rule that was read; it has a list of them, so that the 0 for none is never stored.
-fn premise_count(form: &[u32]) -> usize
-    requires { SomeForm form.now }
-    ensures { (text : List ℕ) (xs ys : Sexps) → Holds text form.now xs → 4 ≡ items xs → item xs 2 ≡ list ys → result ≡ items ys }
-{
-    let Item::List(a, b) = items::nth(form, 2) else {
-        return 0;
-    };
-    items::count(&form[a..b])
 }
 
 // What the row of a rule says: where its name stands, how many variables and premises it has, and where its words stand.
@@ -154,7 +147,7 @@ pub fn add_rule(
     let entry = RuleRow {
         name,
         variables: size.variables,
-        premises: premise_count(form),
+        premises: size.premises,
         words: Span {
             from: held.words,
             end: size.words,

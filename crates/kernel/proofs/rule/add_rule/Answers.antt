@@ -21,7 +21,7 @@ proper_at-requires c = reaching 1 c.requires.form (omega arith)
 
 pub returns-in_err-name : goal.returns-in_err-name
 returns-in_err-name c = λ T xs s h k n. rw (handed c.from_residual-in_err-name.result c.from_residual-in_err-name.ensures)
-    (rule_no_name T xs h (c.in_ok-size.ensures T (begun T) _ s (reads_none T _ refl h) k n)
+    (rule_no_name T xs h (c.in_ok-size.ensures T (begun T) _ s (reads_none T _ refl h) k n).written
     (proper_nowhere 1 xs c.proper_at.ensures c.in_err-name.was k))
 
 pub slice_bounds-named-count : goal.slice_bounds-named-count
@@ -37,30 +37,29 @@ pub named-requires : goal.named-requires
 named-requires c = (names_of rule_name c.requires.some_rules.0, rules_rows c.requires.some_rules.1)
 
 pub returns-in_default : goal.returns-in_default
-returns-in_default c = λ T xs s h k n. rule_again T xs h (c.in_ok-size.ensures T (begun T) _ s (reads_none T _ refl h) k n)
+returns-in_default c = λ T xs s h k n. rule_again T xs h (c.in_ok-size.ensures T (begun T) _ s (reads_none T _ refl h) k n).written
     (proper_here 1 xs c.proper_at.ensures c.in_ok-name.was k) c.named.ensures c.in_default.is
 
 pub store-requires : goal.store-requires
 store-requires c =
     let T = ruled c.requires.some_symbols_held.0 c.requires.some_rules.0 in
-    rule_fits T c.requires.form.xs c.requires.some_rules.1
-    (c.in_ok-size.ensures T (begun T) _ c.requires.some_symbols_held.1 (reads_none T _ refl c.requires.some_rules.1) c.requires.form.holds c.requires.form.many)
-    (proper_here 1 c.requires.form.xs c.proper_at.ensures c.in_ok-name.was c.requires.form.holds)
-    c.requires.form.holds c.requires.form.many c.premise_count.ensures c.requires.form.short
+    let said = c.in_ok-size.ensures T (begun T) _ c.requires.some_symbols_held.1 (reads_none T _ refl c.requires.some_rules.1) c.requires.form.holds c.requires.form.many in
+    rule_fits T c.requires.form.xs c.requires.some_rules.1 said.written
+    (proper_here 1 c.requires.form.xs c.proper_at.ensures c.in_ok-name.was c.requires.form.holds) said.many c.requires.form.short
 
 pub returns-in_err-store : goal.returns-in_err-store
 returns-in_err-store c = λ T xs s h k n.
     let name = proper_here 1 xs c.proper_at.ensures c.in_ok-name.was k in
     let said = c.in_ok-size.ensures T (begun T) _ s (reads_none T _ refl h) k n in
     rw (handed c.from_residual-in_err-store.result c.from_residual-in_err-store.ensures)
-    (rule_unput T xs h said name c.named.ensures c.in-None.is
-    (c.in_err-store.ensures c.args.text.now c.read_rule.new.patterns T.rules _ (held_still T xs h said)
-    (rule_is T xs h said name k n c.premise_count.ensures)))
+    (rule_unput T xs h said.written name c.named.ensures c.in-None.is
+    (c.in_err-store.ensures c.args.text.now c.read_rule.new.patterns T.rules _ (held_still T xs h said.written)
+    (rule_is T xs h said.written name said.many)))
 
 pub returns : goal.returns
 returns c = λ T xs s h k n.
     let name = proper_here 1 xs c.proper_at.ensures c.in_ok-name.was k in
     let said = c.in_ok-size.ensures T (begun T) _ s (reads_none T _ refl h) k n in
-    rule_put T xs h said name c.named.ensures c.in-None.is
-    (c.in_ok-store.ensures c.args.text.now c.read_rule.new.patterns T.rules _ (held_still T xs h said)
-    (rule_is T xs h said name k n c.premise_count.ensures))
+    rule_put T xs h said.written name c.named.ensures c.in-None.is
+    (c.in_ok-store.ensures c.args.text.now c.read_rule.new.patterns T.rules _ (held_still T xs h said.written)
+    (rule_is T xs h said.written name said.many))

@@ -2,7 +2,7 @@ use native.Mathlib.Omega.{arith}
 use Rattle.sexp.specs.WalkLaws.{nth_atom, nth_list}
 use Rattle.kernel.proofs.Handed.{handed}
 use Rattle.kernel.proofs.Trees.{symbolic}
-use Rattle.kernel.proofs.Schemas.{list_at, premising, concluding, schema_atom, schema_stops, schema_open, schema_read}
+use Rattle.kernel.proofs.Schemas.{list_at, premising, concluding, schema_atom, schema_stops, schema_open, schema_read, schema_cut}
 use Rattle.kernel.proofs.patterns.RuleReader.schema.Goals as goal
 
 pub nth-requires : goal.nth-requires
@@ -62,11 +62,25 @@ judgment-requires c =
     (concluding c.args.self.now.patterns.now c.requires (list_at c.requires.form 3 (omega arith) c.nth-2.ensures c.in-List-nth.is)
     (c.in_ok-premises.ensures.read (symbolic c.requires.held.0) c.requires.so_far _ c.requires.held.1 c.requires.reads list.holds))
 
+pub returns-in_err-judgment-clause-read : goal.returns-in_err-judgment-clause-read
+returns-in_err-judgment-clause-read c = λ T R xs h r k n.
+    let known = c.in_ok-premises.ensures.same_tables.known in
+    let list = nth_list k 2 (c.nth.ensures xs k.cells) (omega (arith, n)) c.in-List.is in
+    let list' = nth_list k 3 (c.nth-2.ensures xs k.cells) (omega (arith, n)) c.in-List-nth.is in
+    let written = c.in_ok-premises.ensures.read T R _ h r list.holds in
+    rw (handed c.from_residual-in_err-judgment.result c.from_residual-in_err-judgment.ensures)
+    (schema_cut T R xs list c.args.self.now.used c.args.self.now.patterns.now r.room c.requires.long written list'
+    (c.in_err-judgment.ensures.read T written.now list'.items (rw known h) (rw known written.reads) (rw known list'.holds)))
+
+pub count-requires : goal.count-requires
+count-requires c = let list = list_at c.requires.form 2 (omega arith) c.nth.ensures c.in-List.is in (list.items, list.holds.cells)
+
 pub returns-clause-read : goal.returns-clause-read
 returns-clause-read c = λ T R xs h r k n.
     let known = c.in_ok-premises.ensures.same_tables.known in
     let list = nth_list k 2 (c.nth.ensures xs k.cells) (omega (arith, n)) c.in-List.is in
     let list' = nth_list k 3 (c.nth-2.ensures xs k.cells) (omega (arith, n)) c.in-List-nth.is in
     let written = c.in_ok-premises.ensures.read T R _ h r list.holds in
-    schema_read T R xs list c.args.self.now.used c.args.self.now.patterns.now r.room c.requires.long written list' _ _ _ _ c.judgment.result
-    (rw known at (c.judgment.ensures.read T written.now list'.items (rw known h) (rw known written.reads) (rw known list'.holds)))
+    schema_read T R xs list c.args.self.now.used c.args.self.now.patterns.now r.room c.requires.long written list'
+    (rw known at (c.in_ok-judgment.ensures.read T written.now list'.items (rw known h) (rw known written.reads) (rw known list'.holds)))
+    (c.count.ensures list.items list.holds.cells)
