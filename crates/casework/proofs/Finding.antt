@@ -19,7 +19,7 @@ use Rattle.rules.specs.Store.{Made}
 use Rattle.rules.specs.State.{State}
 use Rattle.rules.specs.Invert.{Case, case_named, read_case, read_cases}
 use Rattle.rules.specs.Laws.Store.{then_ok, then_refuse}
-use Rattle.rules.specs.Laws.Sexp.{rest_item}
+use Rattle.rules.specs.Laws.Sexp.{rest_item, rest_none}
 use Rattle.sexp.specs.Encode.{encode, encodes}
 use Rattle.sexp.specs.Spelt.{Spells}
 use Rattle.sexp.specs.Items.{Holds, item_at, behind}
@@ -62,11 +62,6 @@ named_over : (cs : List Case) (name : List ℕ) (k : ℕ) → length cs ≤ k �
 unfolding case_named
 named_over cs name k l = ap (λ (ds : List Case). case_named ds name) (drop_of_length-le cs l)
 
-rest_zero : (xs : Sexps) → xs ≡ rest xs 0
-unfolding rest
-rest_zero nil = refl
-rest_zero (cons x xs) = refl
-
 count_rest : (xs : Sexps) (k : ℕ) → k ≤ count xs → rest xs k ≡ nil → count xs ≤ k
 unfolding count rest
 count_rest nil k l e = omega arith
@@ -90,7 +85,7 @@ module _ {text cells : List ℕ} (g : CasesIn text cells) (name : List ℕ) wher
   pub seeking_start : Seeking g name 0
   seeking_start = record {
     k = 0;
-    walk = subst (λ (z : Sexps). Walk text cells 0 z) (rest_zero g.xs) (walk_start g.holds);
+    walk = subst (λ (z : Sexps). Walk text cells 0 z) (sym (rest_none g.xs)) (walk_start g.holds);
     few = omega arith;
     whole = refl;
   }
@@ -243,8 +238,8 @@ casing_start S xs {text} {cells} h w =
     record {
       k = 0;
       cs = [];
-      walk = subst (λ (z : Sexps). Walk text cells 0 z) (rest_zero xs) (walk_start h);
-      whole = λ M. ap (λ (z : Sexps). read_cases S z [] M) (rest_zero xs);
+      walk = subst (λ (z : Sexps). Walk text cells 0 z) (sym (rest_none xs)) (walk_start h);
+      whole = λ M. ap (λ (z : Sexps). read_cases S z [] M) (sym (rest_none xs));
       many = refl;
       few = omega arith;
       cases = λ i l. absurd (omega (arith, l));

@@ -12,6 +12,7 @@ use Rattle.rules.specs.Text.{same}
 use Rattle.rules.specs.Find.{any}
 use Rattle.rules.specs.Invert.{Case}
 use Rattle.rules.specs.Laws.Text.{same_self, same_equal}
+use Rattle.terms.specs.Laws.Zeros.{get_d_zeros}
 use Rattle.casework.specs.Distinct.{name_of, TreeIn, IsMet, Entered, EnteredIn, SameNames}
 use Rattle.casework.specs.declared.distinct.NameTree.{NameTree}
 use Rattle.casework.specs.Cases.{no_case, Named, Kept, Naming, TakenAs}
@@ -41,14 +42,9 @@ any_none name (c ∷ cs) f = go (same c.name name) refl (any_none name cs (λ k 
 
 -- The names of no case -------------------------------------------------------------------------------------------------------------------------
 
-zero_cell : (n c : ℕ) → ◌≡◌ {A = ℕ} (get_or (replicate n 0) c 0) 0
-zero_cell zero c = refl
-zero_cell (suc n) zero = refl
-zero_cell (suc n) (suc c) = zero_cell n c
-
 module _ (n : ℕ) (t : NameTree) (p : t.places.now ≡ replicate n 0) (k : t.links.now ≡ replicate n 0) (m : t.many ≡ 0) where
   no_link : (c : ℕ) → ◌≡◌ {A = ℕ} (get_or t.links.now c 0) 0
-  no_link c = ap (λ (xs : List ℕ). get_or xs c 0) k ∙ zero_cell n c
+  no_link c = ap (λ (xs : List ℕ). get_or xs c 0) k ∙ get_d_zeros n c
 
   pub kept_none : n ≤ LENGTH → Kept t []
   kept_none l = record {

@@ -31,6 +31,10 @@ use Rattle.casework.specs.declared.context.Grounds.{Grounds}
 use Rattle.casework.specs.declared.context.Allowing.{Allowing}
 use Rattle.casework.specs.declared.context.Renamed.{Renamed}
 
+-- cells for the numbers of a fact's premises, as many as are lent: those that `induction` has for a case
+abbrev pub IDS : ℕ
+IDS = 40960
+
 -- numbers below k
 abbrev pub There : ℕ → List ℕ → Type 0
 There k xs = (i : ℕ) → i < length xs → get_or xs i 0 < k

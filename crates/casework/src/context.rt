@@ -17,7 +17,7 @@ ghost use Rattle.state.specs.Entries.{part};
 ghost use Rattle.state.specs.Rows.{premises_span};
 ghost use Rattle.referring.specs.Recall.{fact_of};
 ghost use Rattle.referring.specs.Sources.{RecallsIn};
-ghost use Rattle.casework.specs.Context.{There, Comparing, allowed_as, plainly, Adds, ContextAs, UnderAs, one, all_of, under, ContextIn, MarkedAs, OneMarked, UnboundAs, RestsIn, rests_by, RenamedIn, PremisesAs};
+ghost use Rattle.casework.specs.Context.{IDS, There, Comparing, allowed_as, plainly, Adds, ContextAs, UnderAs, one, all_of, under, ContextIn, MarkedAs, OneMarked, UnboundAs, RestsIn, rests_by, RenamedIn, PremisesAs};
 
 use cells::clear;
 use kernel::rule_readers::Rules;
@@ -49,7 +49,8 @@ pub struct Allowing<'a> {
     pub general: &'a [u32],
 }
 
-// A rule, with the terms that its variables are renamed to and the unifier, each in cells.
+// A rule, with the terms that its variables are renamed to and the unifier, each in cells: 0 for none and a number with 1 added, what `substitute` and
+// patterns read.
 #[derive(Clone, Copy)]
 pub struct Renamed<'a> {
     pub rule: usize,
@@ -161,7 +162,7 @@ fn context_under<'a>(
     ids: &mut [u32],
     grounds: Grounds<'a>,
 ) -> Result<Grounds<'a>, Row>
-    requires { ContextIn facts.now store.old map.now memo.old grounds × (h < facts.now.n.facts) × (ids.old ≡ replicate 40960 0) }
+    requires { ContextIn facts.now store.old map.now memo.old grounds × (h < facts.now.n.facts) × (ids.old ≡ replicate IDS 0) }
     ensures same_tables { SameTables store.old store.new }
     ensures under_as { (g : RecallsIn facts.now (terms_of store.old)) →
         UnderAs Allowed store.old store.new g.S (under (replacement (made_of store.old) map.now) (fact_of g.S h) (made_of store.old)) one grounds.entry result }
@@ -209,7 +210,7 @@ fn context_fact<'a>(
     ids: &mut [u32],
     grounds: Grounds<'a>,
 ) -> Result<Grounds<'a>, Question>
-    requires { ContextIn facts.now store.old theta.now memo.old grounds × (h < facts.now.n.facts) × (ids.old ≡ replicate 40960 0) }
+    requires { ContextIn facts.now store.old theta.now memo.old grounds × (h < facts.now.n.facts) × (ids.old ≡ replicate IDS 0) }
     ensures same_tables { SameTables store.old store.new }
     ensures context_as { (g : RecallsIn facts.now (terms_of store.old)) →
         ContextAs Allowed store.old store.new g.S (context_fact (bindings (made_of store.old) theta.now 0) (fact_of g.S h) (made_of store.old)) one grounds.entry result }
@@ -228,7 +229,7 @@ fn context_fact<'a>(
     Ok(context_under(facts, store, &zeta, memo, h, ids, grounds)?)
 }
 
-// All facts of the context in turn. `memo` and `ids` are scratch: zero before and after.
+// All facts of the context in turn. `memo` and `ids` are scratch: zero before and after; they are no struct: see `induction::induct`.
 pub fn context_facts<'a>(
     facts: &Facts<'_>,
     store: &mut Store<'_>,
@@ -238,7 +239,7 @@ pub fn context_facts<'a>(
     ids: &mut [u32],
     grounds: Grounds<'a>,
 ) -> Result<Grounds<'a>, Question>
-    requires { ContextIn facts.now store.old theta.now memo.old grounds × There facts.now.n.facts context.now × (ids.old ≡ replicate 40960 0) }
+    requires { ContextIn facts.now store.old theta.now memo.old grounds × There facts.now.n.facts context.now × (ids.old ≡ replicate IDS 0) }
     ensures same_tables { SameTables store.old store.new }
     ensures context_as { (g : RecallsIn facts.now (terms_of store.old)) →
         ContextAs (List Allowed) store.old store.new g.S (context_facts g.S (bindings (made_of store.old) theta.now 0) context.now (made_of store.old)) all_of grounds.entry result }

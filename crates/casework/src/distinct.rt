@@ -18,7 +18,8 @@ fn turn(name: &[u8], depth: usize) -> usize
     (letter >> (depth % 8)) % 2
 }
 
-// The names that were met, between two places of the text each, as a tree in cells.
+// The names that were met, between two places of the text each, as a tree in cells. It is two tables of cells and no array of nodes: a link is one cell
+// whichever way it goes, and the root is cell 0 of them, which belongs to no node.
 #[derive(Drop)]
 pub struct NameTree<'t, 'a> {
     pub text: &'t [u8],

@@ -35,7 +35,7 @@ use Rattle.referring.specs.Laws.Refers.{refers_recalls}
 use Rattle.sexp.specs.Items.{Holds}
 use Rattle.sexp.specs.WalkLaws.{walk_rest}
 use Rattle.casework.specs.Cases.{CasesIn, CaseFound, CaseHere}
-use Rattle.casework.specs.Context.{There}
+use Rattle.casework.specs.Context.{IDS, There}
 use Rattle.inversion.specs.InvertRules.{RuleVarsGiven, vars_with, CaseVarsGiven, CaseVarsAre, JudgedBy, Lacking, LackedBy, lacks, Having, has_case, Turning, TurnedBy}
 use Rattle.inversion.proofs.InvertNames.{with_length}
 use Rattle.casework.specs.Laws.Rows.{and_true}
@@ -234,7 +234,7 @@ module _ {theory goals text symbols ins vars defs rules rulevars patterns facts 
                 (omega (arith, all_at c.vars k 0 low (subst (λ (xs : List ℕ). k < length xs) list_is t), g.more))
 
             -- what `with_case` asks
-            abbrev pub turn_having : {ids : List ℕ} → ids ≡ replicate 40960 0 → Having symbols rules patterns facts lists n I W m r s j (take need list) context count ids
+            abbrev pub turn_having : {ids : List ℕ} → ids ≡ replicate IDS 0 → Having symbols rules patterns facts lists n I W m r s j (take need list) context count ids
             turn_having zero =
                 record {
                   recalls = refers_recalls g.refers;

@@ -35,7 +35,7 @@ use Rattle.state.specs.Entries.{part}
 use Rattle.state.specs.Held.{VarsHeld, Names as Texts, RuleLists, Ruled}
 use Rattle.referring.specs.Recall.{Refers, Recalls, fact_of}
 use Rattle.casework.specs.Cases.{CaseItem, no_case}
-use Rattle.casework.specs.Context.{There, RenamedRule, RestsGiven, rests_by}
+use Rattle.casework.specs.Context.{IDS, There, RenamedRule, RestsGiven, rests_by}
 
 -- Variables ------------------------------------------------------------------------------------------------------------------------------
 
@@ -166,7 +166,7 @@ pub record Judging (symbols rules patterns facts lists : List ℕ) (n : Sizes) (
   pub empty : memo ≡ replicate TERMS 0
   pub there : j < m.terms
   pub known : There n.facts context
-  pub zero : ids ≡ replicate 40960 0
+  pub zero : ids ≡ replicate IDS 0
 
 -- the rest of a case behind its judgment t, which is under the unifier; context, i: the facts of the context, and the case's
 abbrev pub judged : State → Rule → (ℕ → Tree) → List Binding → List ℕ → ℕ → Tree → Act Made (Unit {0})
@@ -249,7 +249,7 @@ pub record Having (symbols rules patterns facts lists : List ℕ) (n : Sizes) (I
   pub theory : meeting.T ≡ recalls.S.theory
   pub there : j < m.terms
   pub known : There n.facts context
-  pub zero : ids ≡ replicate 40960 0
+  pub zero : ids ≡ replicate IDS 0
 
 -- there must be a unifier, and the case is judged under it
 abbrev pub has_case : State → List ℕ → ℕ → Tree → Rule → List ℕ → ℕ → Tree → Act Made (Unit {0})

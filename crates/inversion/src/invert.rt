@@ -9,7 +9,7 @@ ghost use Rattle.terms.specs.Lent.{SameTables, made_of};
 ghost use Rattle.terms.specs.Sets.{holds};
 ghost use Rattle.state.specs.Held.{VarsHeld};
 ghost use Rattle.referring.specs.Sources.{RecallsIn};
-ghost use Rattle.casework.specs.Context.{There};
+ghost use Rattle.casework.specs.Context.{IDS, There};
 ghost use Rattle.inversion.specs.InvertRules.{vars_with};
 ghost use Rattle.inversion.specs.Inversions.{hypothesis_of, HypothesisAs, invert_on};
 ghost use Rattle.inversion.specs.Inverting.{NamesHypothesis, InvertsForm, InvertsOn, InvertedOnAs, InvertedAs};
@@ -86,7 +86,7 @@ impl Inverting<'_> {
         ids: &mut [u32],
     ) -> Result<usize, Question>
         requires inverts_on { InvertsOn self.now store.old cells.now × (length sorts.old ≡ VARIABLES) }
-        requires empty { (memo.old ≡ replicate TERMS 0) × (ids.old ≡ replicate 40960 0) }
+        requires empty { (memo.old ≡ replicate TERMS 0) × (ids.old ≡ replicate IDS 0) }
         ensures same_tables { SameTables store.old store.new }
         ensures inverted_on_as { (g : InvertsOn self.now store.old cells.now) → let s = store.old in let v = self.now in
             InvertedOnAs s store.new g.form.S
@@ -141,7 +141,7 @@ fn hypothesis(source: &Source<'_>, cells: &[u32], hyps: &mut [u64]) -> Result<us
 }
 
 // The form, whose items the cells hold. The sorts of variables that are made come into `sorts`, each at its number, and zero into the others; their rows
-// are for the caller to write (`put_made`). `memo` and `ids` are scratch: zero before and after.
+// are for the caller to write (`put_made`). `memo` and `ids` are scratch: zero before and after; they are no struct: see `induction::induct`.
 pub fn invert(
     source: &Source<'_>,
     rules: &Rules<'_>,
@@ -152,7 +152,7 @@ pub fn invert(
     ids: &mut [u32],
 ) -> Result<Inverted, Question>
     requires inverts_form { InvertsForm source.now rules.now store.old cells.now × (length sorts.old ≡ VARIABLES) }
-    requires empty { (memo.old ≡ replicate TERMS 0) × (ids.old ≡ replicate 40960 0) }
+    requires empty { (memo.old ≡ replicate TERMS 0) × (ids.old ≡ replicate IDS 0) }
     ensures same_tables { SameTables store.old store.new }
     ensures inverted_as { (g : InvertsForm source.now rules.now store.old cells.now) →
         InvertedAs store.old store.new g.S (invert g.S g.xs (made_of store.old)) sorts.old sorts.new result }
@@ -162,6 +162,7 @@ pub fn invert(
     let fact = hypothesis(source, cells, &mut support.hyps)?;
     let fourth = items::place(cells, 4);
     let judgment = source.reader.judgment(store, &cells[fourth..])?;
+    // no heap for a list: cells for as many as there can be
     let mut list = [0u32; FACTS];
     let many = write_out(&support.hyps, &mut list);
     let inverting = Inverting {

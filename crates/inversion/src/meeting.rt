@@ -16,7 +16,7 @@ use terms::patterns::Patterns;
 use terms::store::Store;
 use unification::unify::{Scratch, unify};
 
-// Variables as terms: their numbers with 1 added come into the first cells.
+// Variables as terms: their numbers with 1 added come into the first cells, and 0 stands for none: what `substitute` and patterns read.
 fn keep_vars(store: &mut Store<'_>, list: &[u32], bound: &mut [u32]) -> Result<(), Row>
     requires { GoodStore store.old × There VARIABLES list.now × (length list.now ≤ RULEVARS) × Cells store.old.mark.terms bound.old }
     ensures same_tables { SameTables store.old store.new }

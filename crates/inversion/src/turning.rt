@@ -6,6 +6,7 @@ ghost use Rattle.rules.specs.Invert.{invert_rule, invert_rules, predicate_of};
 ghost use Rattle.terms.specs.Table.{tree};
 ghost use Rattle.terms.specs.Lent.{GoodTerms, SameTables, made_of};
 ghost use Rattle.unification.specs.Unify.{SameScratch};
+ghost use Rattle.casework.specs.Context.{IDS};
 ghost use Rattle.inversion.specs.InvertRules.{vars_with, lacks, has_case};
 ghost use Rattle.inversion.specs.Inverting.{EmptyScratch, ScratchKept, LackingIn, LackedAs, HavingIn, JudgedAs, TurningIn, TurnedAs};
 
@@ -114,7 +115,7 @@ impl Inverting<'_> {
         ids: &mut [u32],
     ) -> Result<(), Question>
         requires turning { TurningIn self.now cases.now store.old names.old }
-        requires r_lt_rules { (r < self.now.source.reader.n.rules) × EmptyScratch scratch.old × (ids.old ≡ replicate 40960 0) }
+        requires r_lt_rules { (r < self.now.source.reader.n.rules) × EmptyScratch scratch.old × (ids.old ≡ replicate IDS 0) }
         ensures same_tables { SameTables store.old store.new }
         ensures turned_as { (g : TurningIn self.now cases.now store.old names.old) →
             TurnedAs store.old store.new g.S g.inversion (invert_rule g.S g.inversion (rule g.S.theory r) g.names (made_of store.old)) names.old names.new result }
@@ -153,7 +154,7 @@ impl Inverting<'_> {
         ids: &mut [u32],
     ) -> Result<(), Question>
         requires turning { TurningIn self.now cases.now store.old names.old }
-        requires empty { EmptyScratch scratch.old × (ids.old ≡ replicate 40960 0) }
+        requires empty { EmptyScratch scratch.old × (ids.old ≡ replicate IDS 0) }
         ensures same_tables { SameTables store.old store.new }
         ensures turned_as { (g : TurningIn self.now cases.now store.old names.old) →
             TurnedAs store.old store.new g.S g.inversion
@@ -186,7 +187,7 @@ impl Inverting<'_> {
         ids: &mut [u32],
     ) -> Result<(), Question>
         requires turning { TurningIn self.now cases.now store.old names.old }
-        requires empty { (memo.old ≡ replicate TERMS 0) × (ids.old ≡ replicate 40960 0) }
+        requires empty { (memo.old ≡ replicate TERMS 0) × (ids.old ≡ replicate IDS 0) }
         ensures same_tables { SameTables store.old store.new }
         ensures turned_as { (g : TurningIn self.now cases.now store.old names.old) →
             TurnedAs store.old store.new g.S g.inversion

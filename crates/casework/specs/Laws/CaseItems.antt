@@ -10,7 +10,7 @@ use Rattle.rules.specs.State.{State}
 use Rattle.rules.specs.Read.{index, vars_list}
 use Rattle.rules.specs.Invert.{Case, read_case}
 use Rattle.rules.specs.Laws.Store.{then_ok, then_refuse}
-use Rattle.rules.specs.Laws.Sexp.{rest_item}
+use Rattle.rules.specs.Laws.Sexp.{rest_item, rest_none}
 use Rattle.sexp.specs.Encode.{encodes}
 use Rattle.sexp.specs.Items.{Holds, item_at, place}
 use Rattle.sexp.specs.Never.{never}
@@ -100,13 +100,8 @@ module _ (S : State) (x : Sexp) (M : Made) where
 pub item_reads : (S : State) (x : Sexp) (c : Case) → CaseItem S.vars x c → (M : Made) → read_case S x M ≡ ok c M
 item_reads S x c k M = case_read S x M k.inner k.is k.three k.place c.name k.named c.fact k.fact c.vars k.vars
 
-rest_none : (us : Sexps) → us ≡ rest us 0
-unfolding rest
-rest_none nil = refl
-rest_none (cons u us) = refl
-
 some_items : (zs : Sexps) → 0 < count zs → zs ≡ cons (item zs 0) (rest zs 1)
-some_items zs l = rest_none zs ∙ rest_item zs 0 l
+some_items zs l = sym (rest_none zs) ∙ rest_item zs 0 l
 
 -- The items of a case in cells ---------------------------------------------------------------------------------------------------------------
 
