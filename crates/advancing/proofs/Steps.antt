@@ -12,6 +12,7 @@ use Rattle.rules.specs.Forms.{take_form}
 use Rattle.questions.specs.declared.Question.{Question}
 use Rattle.sexp.specs.Encode.{encode}
 use Rattle.sexp.specs.Reads.{Clear, ReadRight}
+use Rattle.sexp.specs.Through.{Legible}
 use Rattle.sexp.specs.ReadLaws.{FormIs, at_end, at_refused, at_form, form_cleared}
 use Rattle.sexp.specs.declared.sexp.Form.{Form}
 use Rattle.kernel.specs.Parsed.{Formed}
@@ -156,12 +157,12 @@ module _ {g : Given} {b : Board} {s : Store} {at : ℕ} (r : Ready g b s at) {ce
   short : length g.text.now ≤ LENGTH
   short = r.underway.stands.spelling.short
 
-  pub clean : Clear cells
+  clean : Clear cells
   clean = i.cells_zero ∙ ap (λ n. replicate n 0) (sym cells_long)
 
   -- what `read_form` asks
-  pub read_asks : (at ≤ length g.text.now) × (length g.text.now ≤ LENGTH) × (length g.text.now ≤ length cells)
-  read_asks = (r.underway.high, short, omega (arith, short, cells_long))
+  pub read_asks : Legible g.text.now cells
+  read_asks = record { short = short; fits = omega (arith, short, cells_long); clear = clean }
 
   pub zeros_again : {v : List ℕ} → v ≡ replicate (length cells) 0 → Idle v ids memo
   zeros_again e = record { cells_zero = e ∙ ap (λ n. replicate n 0) cells_long; ids_zero = i.ids_zero; memo_zero = i.memo_zero }
@@ -177,7 +178,7 @@ module _ {g : Given} {b : Board} {s : Store} {at : ℕ} (r : Ready g b s at) {ce
 
     module _ {f : Form} (e : o ≡ Ok (some f)) where
       abbrev form : FormIs g.text.now at cells v f.end f.cells
-      form = at_form k read_asks.2 e
+      form = at_form k read_asks.fits e
 
       pub used_few : f.cells ≤ LENGTH
       used_few = omega (arith, form.room, cells_long)

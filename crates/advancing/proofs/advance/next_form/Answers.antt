@@ -1,11 +1,11 @@
 use Rattle.std.specs.Prelude.{refl}
 use Rattle.std.proofs.lemmas.Result.{err_from_is_err_and}
 use Rattle.cells.specs.Cleared.{front_cleared}
-use Rattle.advancing.proofs.Steps.{clean, at_the_end, at_unread, form_asks, used_inside, cleared, form_refused, refused_stay, stored_asks, taken_stay, form_taken}
+use Rattle.advancing.proofs.Steps.{read_asks, at_the_end, at_unread, form_asks, used_inside, cleared, form_refused, refused_stay, stored_asks, taken_stay, form_taken}
 use Rattle.advancing.proofs.advance.next_form.Goals as goal
 
-pub read_form-requires-clause-clear : goal.read_form-requires-clause-clear
-read_form-requires-clause-clear c = clean c.requires.ready c.requires.idle
+pub read_form-requires-clause-legible : goal.read_form-requires-clause-legible
+read_form-requires-clause-legible c = read_asks c.requires.ready c.requires.idle
 
 pub returns-in_err-form-clause-advanced : goal.returns-in_err-form-clause-advanced
 returns-in_err-form-clause-advanced c =
