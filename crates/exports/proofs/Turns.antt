@@ -1,18 +1,20 @@
 -- The loop of `tariff_read`, as steps from form to form. Assumes nothing.
 use mathlib.Core.Path.{◌≡◌, refl, sym, ap, ◌∙◌}
-use mathlib.Core.Bool.{true, false}
+use mathlib.Core.Bool.{Bool, true, false}
 use Prim.Native.Nat.{ℕ, ◌+◌, ◌*◌, ◌-◌, ◌%◌, ◌≤◌, ◌<◌}
 use mathlib.Core.List.{List, ◌++◌}
 use native.Mathlib.Omega.{arith}
 use lib.Dec.{eqb}
 use lib.ListN.{length, get_or, take, drop, replicate, length-append, length-replicate}
-use borrow.Author.Tests.{eq-eqb, ne_eqb}
-use Rattle.rules.specs.Limits.{LENGTH}
+use borrow.Author.Tests.{eq-eqb, ne_eqb, eqb-true, eqb-false}
 use Rattle.rules.specs.Sexp.{Sexp, Sexps, atom, list, Text, ends, fails, more, read, read_from}
 use Rattle.cells.specs.Cleared.{front_cleared}
 use Rattle.sexp.specs.Encode.{encode, encodes}
 use Rattle.sexp.specs.ItemLaws.{some_cells}
-use Rattle.sexp.specs.Reads.{Clear, ReadRight}
+use Rattle.sexp.specs.Items.{item_at, by_parity}
+use Rattle.sexp.specs.declared.items.Item.TheVariants.{Atom, List as Part}
+use Rattle.sexp.specs.Reads.{ReadRight}
+use Rattle.sexp.specs.Through.{Legible}
 use Rattle.sexp.specs.ReadLaws.{read_first, FormIs, at_end, at_refused, at_form, form_cleared}
 use Rattle.std.specs.Prelude.{Option, Some as some, None as nothing, Result, Ok, Err}
 use Rattle.questions.specs.declared.Question.{Question}
@@ -40,25 +42,39 @@ forms_before (more (list xs) q t) n r e = forms_before t (n + 1) r e
 
 -- what the text reads as from here, with n bracketed forms before, is what it reads as from the start
 pub record Turning (text w₀ w : List ℕ) (at n : ℕ) : Type 0 where
-  pub short : length text ≤ LENGTH
-  pub room : length text ≤ length w₀
-  pub clear : Clear w₀
+  pub legible : Legible text w₀
   pub cells : w ≡ w₀
   pub high : at ≤ length text
   pub few : n ≤ at
   pub same : forms_of (read text) 0 ≡ forms_of (read_from text at) n
 
-pub begin : (text w : List ℕ) → (length text ≤ LENGTH) × (length text ≤ length w) → Clear w → Turning text w w 0 0
-begin text w h z =
+pub begin : (text w : List ℕ) → Legible text w → Turning text w w 0 0
+begin text w h =
     record {
-      short = h.0;
-      room = h.1;
-      clear = z;
+      legible = h;
       cells = refl;
       high = omega arith;
       few = omega arith;
       same = ap (λ t. forms_of t 0) (read_first text);
     }
+
+-- the first cell of a list is even, that of an atom odd
+module _ (w : List ℕ) where
+  pub even_list : {a b : ℕ} → item_at w 0 ≡ Part a b → true ≡ eqb (get_or w 0 0 % 2) 0
+  unfolding item_at
+  even_list {a} {b} e = go (eqb (get_or w 0 0 % 2) 1) refl e
+    where
+      go : (t : Bool) → eqb (get_or w 0 0 % 2) 1 ≡ t → by_parity t 0 (get_or w 0 0) ≡ Part a b → true ≡ eqb (get_or w 0 0 % 2) 0
+      go true k h = cc
+      go false k h = let odd = eqb-false (get_or w 0 0 % 2) 1 k in sym (eq-eqb (get_or w 0 0 % 2) 0 (omega (arith, odd)))
+
+  pub odd_atom : {p : ℕ} → item_at w 0 ≡ Atom p → false ≡ eqb (get_or w 0 0 % 2) 0
+  unfolding item_at
+  odd_atom {p} e = go (eqb (get_or w 0 0 % 2) 1) refl e
+    where
+      go : (t : Bool) → eqb (get_or w 0 0 % 2) 1 ≡ t → by_parity t 0 (get_or w 0 0) ≡ Atom p → false ≡ eqb (get_or w 0 0 % 2) 0
+      go true k h = let odd = eqb-true (get_or w 0 0 % 2) 1 k in sym (ne_eqb (get_or w 0 0 % 2) 0 (λ z. omega (arith, odd, z)))
+      go false k h = cc
 
 -- whether a form is a list shows in its first cell
 first_list : (xs : Sexps) (l : List ℕ) → eqb (get_or (encode (list xs) ++ l) 0 0 % 2) 0 ≡ true
@@ -70,11 +86,11 @@ unfolding encode
 first_atom p bs l = ne_eqb ((2 * p + 1) % 2) 0 (λ e. omega arith)
 
 module _ {text w₀ w : List ℕ} {at n : ℕ} (t : Turning text w₀ w at n) where
-  pub asks : ((at ≤ length text) × (length text ≤ LENGTH) × (length text ≤ length w)) × Clear w
-  asks = ((t.high, t.short, rw t.cells t.room), rw t.cells t.clear)
+  pub asks : Legible text w
+  asks = rw t.cells t.legible
 
   back : {v : List ℕ} → v ≡ replicate (length w) 0 → v ≡ w₀
-  back e = e ∙ ap (λ x. replicate (length x) 0) t.cells ∙ sym t.clear
+  back e = e ∙ ap (λ x. replicate (length x) 0) t.cells ∙ sym t.legible.clear
 
   module _ {v : List ℕ} {r : Result (Option Form) Question} (k : ReadRight text at w v r) where
     pub ended : r ≡ Ok nothing → (n ≡ forms_of (read text) 0) × (v ≡ w₀)
@@ -87,7 +103,7 @@ module _ {text w₀ w : List ℕ} {at n : ℕ} (t : Turning text w₀ w at n) wh
 
     module _ {f : Form} (e : r ≡ Ok (some f)) where
       here : FormIs text at w v f.end f.cells
-      here = at_form k (rw t.cells t.room) e
+      here = at_form k asks.fits e
 
       pub on : (at < f.end) × (f.end ≤ length text)
       on = (here.on, here.within)
@@ -115,9 +131,7 @@ module _ {text w₀ w : List ℕ} {at n : ℕ} (t : Turning text w₀ w at n) wh
         pub past_list : eqb (get_or v 0 0 % 2) 0 ≡ true → Turning text w₀ (front ++ drop f.cells v) f.end (n + 1)
         past_list b =
             record {
-              short = t.short;
-              room = t.room;
-              clear = t.clear;
+              legible = t.legible;
               cells = cleared;
               high = here.within;
               few = omega (arith, t.few, here.on);
@@ -127,9 +141,7 @@ module _ {text w₀ w : List ℕ} {at n : ℕ} (t : Turning text w₀ w at n) wh
         pub past_atom : eqb (get_or v 0 0 % 2) 0 ≡ false → Turning text w₀ (front ++ drop f.cells v) f.end n
         past_atom b =
             record {
-              short = t.short;
-              room = t.room;
-              clear = t.clear;
+              legible = t.legible;
               cells = cleared;
               high = here.within;
               few = omega (arith, t.few, here.on);

@@ -13,6 +13,7 @@ use cells::clear;
 use kernel::parse::parse;
 use kernel::tables::{Counts, Tables};
 use rules::RULES;
+use sexp::items::{Item, item_at};
 use sexp::sexp::{read_all, read_form};
 
 // The number of a text's bracketed forms before its end or a refusal, by its tokens alone.
@@ -31,24 +32,21 @@ fn bracketed(words: &[u32]) -> bool
     requires { 0 < length words.now }
     ensures { result ≡ eqb (get_or words.now 0 0 % 2) 0 }
 {
-    words[0] % 2 == 0
+    matches!(item_at(words, 0), Item::List(_, _))
 }
 
 // The same number, by reading form after form into cells; these are zero, at least as many as bytes, and are left so.
 #[unsafe(no_mangle)]
 pub extern "C" fn tariff_read(text: &[u8], words: &mut [u32]) -> usize
-    requires text_len_bound { (length text.now ≤ LENGTH) × (length text.now ≤ length words.old) }
-    requires clear { Clear words.old }
+    requires legible { Legible text.now words.old }
     ensures { (result ≡ forms_of (read text.now) 0) × (words.new ≡ words.old) }
 {
     let mut at = 0;
     let mut forms = 0;
-    // from form to form, which is no count
+    // from form to form, which is no count; a form is read into lent cells, which no iterator could lend on
     loop {
-        let form = match read_form(text, at, words) {
-            Ok(Some(form)) => form,
-            Ok(None) => return forms,
-            Err(_) => return forms,
+        let Ok(Some(form)) = read_form(text, at, words) else {
+            return forms;
         };
         if bracketed(words) {
             forms += 1;

@@ -5,16 +5,16 @@ use Rattle.exports.proofs.tariff_read.Goals as goal
 use Rattle.exports.proofs.tariff_read.Goals.{then-bracketed, else-bracketed}
 
 pub loop-form-init : goal.loop-form-init
-loop-form-init c = turns.begin _ _ c.requires.text_len_bound c.requires.clear
+loop-form-init c = turns.begin _ _ c.requires.legible
 
 pub read_form-requires : goal.read_form-requires
-read_form-requires c = record { from_in_bounds = (turns.asks c.loop-form.invariant).0; clear = (turns.asks c.loop-form.invariant).1 }
+read_form-requires c = record { from_in_bounds = c.loop-form.invariant.high; legible = turns.asks c.loop-form.invariant }
 
-pub returns-in-Ok-None : goal.returns-in-Ok-None
-returns-in-Ok-None c = turns.ended c.loop-form.invariant c.read_form.ensures (rw c.in-Ok-None.field-0-is at c.in-Ok-None.is)
+pub returns-in_default : goal.returns-in_default
+returns-in_default c = turns.ended c.loop-form.invariant c.read_form.ensures cc
 
-pub returns-in-Err : goal.returns-in-Err
-returns-in-Err c = turns.refused c.loop-form.invariant c.read_form.ensures c.in-Err.is
+pub returns-in_default-2 : goal.returns-in_default-2
+returns-in_default-2 c = turns.refused c.loop-form.invariant c.read_form.ensures c.in_default.is
 
 pub bracketed-requires : goal.bracketed-requires
 bracketed-requires c = (turns.cells_there c.loop-form.invariant c.read_form.ensures (rw c.in-Ok-Some.field-0-is at c.in-Ok-Some.is)).0
