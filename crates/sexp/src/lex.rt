@@ -94,7 +94,7 @@ fn skip_blocks<F: Fn(&[u8]) -> bool>(text: &[u8], from: usize, passes: F) -> usi
         × ((k : ℕ) → k < n → FnReturnsAt F.Fn passes (take 64 (drop (from + 64 * k) text.now)) true) }
 {
     let mut at = from;
-    // block after block, up to one that does not pass
+    // block after block, up to one that does not pass; a chain of chunks gives their number, and the place would be made of it again
     while text.len() - at >= 64 {
         let end = at + 64;
         if !passes(&text[at..end]) {

@@ -22,7 +22,8 @@ pub fn same(s: &[u8], t: &[u8]) -> bool
     true
 }
 
-// The value of an index without a sign: digits, at least one, of a value that fits.
+// The value of an index without a sign: digits, at least one, of a value that fits. With a `+` or not the library's `parse` reads just that, but of a `str`:
+// each name would be asked first whether its bytes are UTF-8.
 fn unsigned(digits: &[u8]) -> Option<usize>
     ensures { result ≡ unsigned digits.now }
 {
