@@ -76,12 +76,11 @@ impl Scratch<'_> {
         ensures waiting { self.new.waiting ≡ self.old.waiting + length left.now }
         ensures unchanged { let x = self.old in let y = self.new in (y.map.now ≡ x.map.now) × (y.memo.now ≡ x.memo.now) × (y.seen.now ≡ x.seen.now) }
     {
-        let from = self.waiting;
-        for (k, word) in left.iter().enumerate() {
-            let at = 2 * (from + k);
+        for (word, other) in left.iter().zip(right) {
+            let at = 2 * self.waiting;
             self.pairs[at] = *word;
-            self.pairs[at + 1] = right[k];
+            self.pairs[at + 1] = *other;
+            self.waiting += 1;
         }
-        self.waiting = from + left.len();
     }
 }

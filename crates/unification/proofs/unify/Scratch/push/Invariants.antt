@@ -3,12 +3,12 @@ use Rattle.unification.specs.Unify.{SameScratch}
 use Rattle.unification.proofs.Piles.{Piling}
 use Rattle.unification.proofs.unify.Scratch.push.Given as goal
 
-abbrev pub invariant-loop-k : goal.invariant-loop-k
-invariant-loop-k l =
+abbrev pub invariant-loop-word : goal.invariant-loop-word
+invariant-loop-word l =
     let x = l.initial.self in
     let y = l.self in
     record {
       same : SameScratch x y;
       unchanged : (y.map.now ≡ x.map.now) × (y.memo.now ≡ x.memo.now) × (y.seen.now ≡ x.seen.now);
-      piling : Piling l.left l.right x.pairs.now l.from y.pairs.now l.k;
+      piling : Piling l.left l.right x.pairs.now x.waiting y.pairs.now y.waiting l.word-iterator.a.rest.now l.word-iterator.b.rest.now;
     }
