@@ -1,10 +1,10 @@
 -- What `add_hyp` answers. Assumes nothing.
-use mathlib.Core.Path.{◌≡◌, refl, sym, ◌∙◌, subst}
+use mathlib.Core.Path.{◌≡◌, refl, ◌∙◌, subst}
 use mathlib.Core.List.{List, []}
 use Prim.Native.Nat.{ℕ, ◌+◌, ◌-◌, ◌*◌}
 use native.Mathlib.Omega.{arith}
 use lib.ListN.{length, take, drop}
-use Rattle.std.specs.Prelude.{Result, Ok, Err, MatchResult, IsErrAnd}
+use Rattle.std.specs.Prelude.{Result, Ok, Err}
 use Rattle.rules.specs.Limits.{FACTS}
 use Rattle.rules.specs.Out.{Out, then}
 use Rattle.rules.specs.Sexp.{Sexps, item}
@@ -23,8 +23,6 @@ use Rattle.terms.specs.Table.{made, tree}
 use Rattle.terms.specs.On.{Stopped}
 use Rattle.state.specs.declared.sizes.Sizes.{Sizes}
 use Rattle.questions.specs.declared.Row.{Row}
-use Rattle.questions.specs.declared.Question.{Question}
-use Rattle.questions.specs.declared.Question.TheVariants.{Room}
 use Rattle.questions.specs.Numbers.{row_number}
 use Rattle.state.specs.Held.{Names, Records, records}
 use Rattle.state.specs.Rows.{Putting}
@@ -35,7 +33,7 @@ use Rattle.reading.specs.Given.{ReadsItem}
 use Rattle.reading.specs.Answers.{TermRead}
 use Rattle.reading.specs.Laws.Reading.{reads_ready, reads_item}
 use Rattle.forms.specs.Halted.{Halts}
-use Rattle.forms.specs.Assumed.{AddsFact, HypAdded, HypPutBy, AssumedBy}
+use Rattle.forms.specs.Assumed.{AddsFact, HypAdded, HypPutBy}
 use Rattle.forms.specs.Laws.Making.{Reached, reached_start, reached_went, reached_stopped, item_holds}
 use Rattle.forms.proofs.Assuming.{adding_ok, adding_full, putting}
 
@@ -100,17 +98,3 @@ module _ {K : Names} {facts lists : List ℕ} {n : Sizes} {I W : List ℕ} {m : 
         hyp_full {d} q =
             let z = subst (HypPutBy (records facts g.footings lists) (records Q.facts g.footings Q.lists) n k j 0 0) q put_here in
             (adding_full g.refers.recorded j none [] hyp_came refl refl z.0.1 z.0.2, z.0.0, z.1)
-
-        -- s: the same, with the row as the question's
-        pub hyp_answers : (s : Result (Unit {0}) Question) → MatchResult r (λ u. s ≡ Ok u) (λ d. IsErrAnd s (λ q. q ≡ Room d)) →
-            AssumedBy (records facts g.footings lists) (records Q.facts g.footings Q.lists) n k I W J X m new g.S (add_hyp g.xs g.S) s
-        hyp_answers s a = go r s refl a
-          where
-            go : (z : Result (Unit {0}) Row) (s : Result (Unit {0}) Question) → r ≡ z → MatchResult z (λ u. s ≡ Ok u) (λ d. IsErrAnd s (λ q. q ≡ Room d)) →
-                AssumedBy (records facts g.footings lists) (records Q.facts g.footings Q.lists) n k I W J X m new g.S (add_hyp g.xs g.S) s
-            go (Ok u) s e a =
-                subst (AssumedBy (records facts g.footings lists) (records Q.facts g.footings Q.lists) n k I W J X m new g.S (add_hyp g.xs g.S)) (sym a) (hyp_added e)
-            go (Err d) (Err q) e a =
-                subst (λ q. AssumedBy (records facts g.footings lists) (records Q.facts g.footings Q.lists) n k I W J X m new g.S (add_hyp g.xs g.S) (Err q)) (sym a)
-                (hyp_full e)
-            go (Err d) (Ok u) e a = absurd a

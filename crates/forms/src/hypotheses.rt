@@ -57,10 +57,12 @@ pub fn add_hyp(
     // a copy, whose references may be lent for as short as the board's
     let own = *given;
     let judgment = reader_of(&own, board).judgment(store, &cells[at..])?;
-    put_behind(board, judgment, 0, 0).map_err(Question::Room)
+    put_behind(board, judgment, 0, 0)?;
+    Ok(())
 }
 
-// The generalised variables, which item 4 of the form lists, come into the cells, which are zero before; how many they are.
+// The generalised variables, which item 4 of the form lists, come into the cells, which are zero before; how many they are. The cells are lent, since
+// there is no heap for a list.
 fn general_vars(
     given: &Given<'_>,
     board: &Board<'_>,
@@ -77,7 +79,8 @@ fn general_vars(
 }
 
 // A hypothesis behind the others; so many premises stand behind its own entry already, as far as there is room, and the generalised variables come
-// behind these.
+// behind these. The room is asked before they are written, though `put_hypothesis` asks it again: with its asking alone they would be written as far as
+// there is room, and a refusal would have to say what is left of them.
 fn put_rule(
     board: &mut Board<'_>,
     judgment: usize,

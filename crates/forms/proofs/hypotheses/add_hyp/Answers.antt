@@ -1,9 +1,10 @@
 use mathlib.Core.Path.{refl}
 use native.Mathlib.Omega.{arith}
+use Rattle.std.proofs.lemmas.Result.{err_from_is_err_and}
 use Rattle.kernel.proofs.Handed.{handed}
 use Rattle.sexp.specs.NthItem.{place_high}
 use Rattle.state.specs.Held.{records}
-use Rattle.forms.proofs.Supposing.{hyp_item, hyp_no, hyp_asks, hyp_answers}
+use Rattle.forms.proofs.Supposing.{hyp_item, hyp_no, hyp_asks, hyp_added, hyp_full}
 use Rattle.forms.proofs.hypotheses.add_hyp.Goals as goal
 
 pub offset_bounds-cells-at : goal.offset_bounds-cells-at
@@ -28,8 +29,15 @@ put_behind-requires c =
     let r = rw c.reader_of.ensures at c.in_ok-judgment.ensures.read_as in
     ((c.requires.footings, hyp_asks c.requires c.place-at.ensures r), omega arith)
 
+pub returns-in_err-put_behind-clause-assumed_as : goal.returns-in_err-put_behind-clause-assumed_as
+returns-in_err-put_behind-clause-assumed_as c = λ g.
+    let r = rw c.reader_of.ensures at c.in_ok-judgment.ensures.read_as in
+    let p = err_from_is_err_and c.from_residual-in_err-put_behind.result c.from_residual-in_err-put_behind.ensures.1 in
+    rw (p.1, p.2) (hyp_full g c.place-at.ensures r (records c.put_behind.new.board.facts.now g.footings c.put_behind.new.board.lists.now) c.put_behind.new.board.n
+    _ c.in_err-put_behind.ensures.put_as refl)
+
 pub returns-clause-assumed_as : goal.returns-clause-assumed_as
 returns-clause-assumed_as c = λ g.
     let r = rw c.reader_of.ensures at c.in_ok-judgment.ensures.read_as in
-    hyp_answers g c.place-at.ensures r (records c.put_behind.new.board.facts.now g.footings c.put_behind.new.board.lists.now) c.put_behind.new.board.n
-    c.put_behind.result c.put_behind.ensures.put_as c.map_err.result c.map_err.ensures.cases
+    hyp_added g c.place-at.ensures r (records c.put_behind.new.board.facts.now g.footings c.put_behind.new.board.lists.now) c.put_behind.new.board.n
+    _ c.in_ok-put_behind.ensures.put_as refl
