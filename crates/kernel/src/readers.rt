@@ -68,6 +68,7 @@ pub fn constructors(symbols: &[u32], count: usize, sort: usize) -> usize
         result ≡ length (constructors_of T sort) }
 {
     let mut n = 0;
+    // a count beside a `for`: of `filter` and `count` it would have to be shown which items their run drains, which is more than this loop's invariant
     for c in 0..count {
         if output(symbols, c) == sort {
             n += 1;
