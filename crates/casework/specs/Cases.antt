@@ -74,9 +74,9 @@ pub record CaseIs (S : State) (text : List ℕ) (x : Sexp) (cells : List ℕ) (s
   pub count : many ≡ length c.vars
   pub cells_are : cells ≡ filled VARIABLES c.vars
 
-abbrev pub CaseAs : State → List ℕ → Sexp → List ℕ → List ℕ → Result CaseRead Question → Type 0
-CaseAs S text x before cells (Ok r) = CaseIs S text x cells r.start r.fact r.variables
-CaseAs S text x before cells (Err e) = ((M : Made) → read_case S x M ≡ refuse (number_of e) (detail_of e) M) × ((cells ≡ before) × (detail_of e ≡ 0))
+abbrev pub CaseAs : State → List ℕ → Sexp → Result CaseRead Question → Type 0
+CaseAs S text x (Ok r) = CaseIs S text x r.own r.start r.fact r.variables
+CaseAs S text x (Err e) = ((M : Made) → read_case S x M ≡ refuse (number_of e) (detail_of e) M) × (detail_of e ≡ 0)
 
 -- The case of a name ---------------------------------------------------------------------------------------------------------------
 

@@ -1,6 +1,5 @@
 // The cases of `invert`, `(RULE INDEX (VAR...))`, one a name: question 41, and 42 for their variables.
-ghost use Rattle.std.specs.Prelude.{◌≡◌, [], ◌≤◌, length, replicate};
-ghost use Rattle.rules.specs.Limits.{VARIABLES};
+ghost use Rattle.std.specs.Prelude.{◌≡◌, [], ◌≤◌, length};
 ghost use Rattle.rules.specs.Text.{same};
 ghost use Rattle.rules.specs.Find.{any};
 ghost use Rattle.rules.specs.Invert.{Case};
@@ -22,18 +21,19 @@ const FEW: usize = 16;
 // The cells of a tree for 8,191 names, two for each.
 const NAMECELLS: usize = 16384;
 
-// Where the case's name begins, the number of its fact, and how many variables it has.
-#[derive(Clone, Copy, Debug, PartialEq, Eq)]
+// Where the case's name begins, the number of its fact, its variables, and how many they are.
+#[derive(Clone, Copy)]
 pub struct CaseRead {
     pub start: usize,
     pub fact: usize,
+    pub own: [u32; VARIABLES],
     pub variables: usize,
 }
 
-// The case that the first item spells; its variables come into the cells, which are zero before, and afterwards where it is refused.
-pub fn read_case(reader: &Reader<'_>, cells: &[u32], out: &mut [u32]) -> Result<CaseRead, Question>
-    requires { ReadsCase reader.now cells.now × (out.old ≡ replicate VARIABLES 0) }
-    ensures { (g : ReadsCase reader.now cells.now) → CaseAs g.S reader.now.text.now g.x out.old out.new result }
+// The case that the first item spells.
+pub fn read_case(reader: &Reader<'_>, cells: &[u32]) -> Result<CaseRead, Question>
+    requires { ReadsCase reader.now cells.now }
+    ensures { (g : ReadsCase reader.now cells.now) → CaseAs g.S reader.now.text.now g.x result }
 {
     let Item::List(a, b) = items::item_at(cells, 0) else {
         return Err(Question::Cases);
@@ -50,12 +50,14 @@ pub fn read_case(reader: &Reader<'_>, cells: &[u32], out: &mut [u32]) -> Result<
         return Err(Question::Cases);
     };
     let third = items::place(inner, 2);
-    let Some(variables) = reader.vars_list(&inner[third..], out) else {
+    let mut own = [0u32; VARIABLES];
+    let Some(variables) = reader.vars_list(&inner[third..], &mut own) else {
         return Err(Question::CaseVariables);
     };
     Ok(CaseRead {
         start,
         fact,
+        own,
         variables,
     })
 }
@@ -123,8 +125,7 @@ fn read_with(
     ensures { (g : ReadsCases reader.now cells.now) → CasesAs g.S g.xs result }
 {
     for item in items::all(cells) {
-        let mut out = [0u32; VARIABLES];
-        let case = read_case(reader, item, &mut out)?;
+        let case = read_case(reader, item)?;
         let end = lex::atom_end(reader.text, case.start);
         let before = &cells[..cells.len() - item.len()];
         if is_taken(names, before, case.start, end) {

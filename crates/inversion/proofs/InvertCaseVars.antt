@@ -58,9 +58,12 @@ module _ {goals text vars rulevars : List ℕ} {count : ℕ} {cells : List ℕ} 
   pub case_never : {A : Type 0} {q d : ℕ} → ((w : VarsItem goals text vars count cells) → (M : Made) → read_case w.S w.x M ≡ refuse q d M) → A
   case_never {q = q} {d} f = no_answer g.c q d [] (sym (item_reads g.S g.x g.c g.case []) ∙ f case_given [])
 
-  module _ (out : List ℕ) {one : CaseRead}
-      (f : (w : VarsItem goals text vars count cells) → CaseIs w.S text w.x out one.start one.fact one.variables) where
-    read : CaseIs g.S text g.x out one.start one.fact one.variables
+  module _ {one : CaseRead}
+      (f : (w : VarsItem goals text vars count cells) → CaseIs w.S text w.x one.own one.start one.fact one.variables) where
+    abbrev out : List ℕ
+    out = one.own
+
+    read : CaseIs g.S text g.x one.own one.start one.fact one.variables
     read = f case_given
 
     same_case : read.c ≡ g.c
@@ -93,7 +96,7 @@ module _ {goals text vars rulevars : List ℕ} {count : ℕ} {cells : List ℕ} 
         ap length (out_is ∙ filled_fits VARIABLES g.c.vars fits)
         ∙ omega (arith, length-append g.c.vars (replicate (VARIABLES - length g.c.vars) 0), length-replicate {A = ℕ} (VARIABLES - length g.c.vars) 0)
 
-    pub case_room : one.variables ≤ length out
+    case_room : one.variables ≤ length out
     case_room = omega (arith, case_fits, out_long)
 
     pub case_long : one.variables ≡ length (take one.variables out)

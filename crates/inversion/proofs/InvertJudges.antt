@@ -1,7 +1,7 @@
 -- A case of `invert` is judged under the unifier: what it may rest on, then its fact; and a rule with a case. Assumes nothing.
 use mathlib.Core.Path.{◌≡◌, refl, sym, ap, ◌∙◌, subst}
 use mathlib.Core.Bool.{Bool, true, false}
-use Rattle.std.specs.Prelude.{Option, None as nothing, Ok, Err}
+use Rattle.std.specs.Prelude.{Option, Some as some, None as nothing, Ok, Err}
 use mathlib.Core.List.{List, ◌++◌}
 use Prim.Native.Nat.{ℕ, ◌<◌}
 use native.Mathlib.Omega.{arith}
@@ -34,6 +34,7 @@ use Rattle.referring.specs.declared.source.Source.{Source}
 use Rattle.referring.specs.Sources.{facts_of}
 use Rattle.referring.specs.Recall.{fact_of, Recalls}
 use Rattle.casework.specs.Context.{There, ContextGiven, ContextRead, all_of, PremisesRead}
+use Rattle.inversion.specs.declared.meeting.Met.{Met as Found}
 use Rattle.inversion.specs.InvertRules.{Judging, judged, judges, own_span, Verdict, verdict_of, JudgedBy, Having, has_case, meets, Met, MetBy}
 use Rattle.casework.specs.Laws.Facts.{recalls_grown}
 use Rattle.casework.specs.Laws.Rows.{row}
@@ -218,12 +219,12 @@ module _ {symbols rules patterns facts lists : List ℕ} {n : Sizes} {I W : List
   pub having_full : (i : ℕ) {J X : List ℕ} {q d : ℕ} {new : Mark} → Stopped I W J X m (met g.meeting.T) q d new → Stopped I W J X m (case_of_lem g.recalls.S.theory i) q d new
   having_full i w = on_no _ (begun i) w
 
-  module _ (J X cells theta : List ℕ) (new : Mark) {b : Bool} (w : MetBy I W J X m new (met g.meeting.T) list cells theta (Ok b)) where
-    pub having_met : b ≡ true → Met I W J X m (met g.meeting.T) list cells theta new
-    having_met e = subst (λ (z : Bool). MetBy I W J X m new (met g.meeting.T) list cells theta (Ok z)) e w
+  module _ (J X : List ℕ) (new : Mark) {o : Option Found} (w : MetBy I W J X m new (met g.meeting.T) list (Ok o)) where
+    pub having_met : {a : Found} → o ≡ some a → Met I W J X m (met g.meeting.T) list a.bound a.theta new
+    having_met e = subst (λ (z : Option Found). MetBy I W J X m new (met g.meeting.T) list (Ok z)) e w
 
-    pub having_unmet : (i : ℕ) → b ≡ false → Stopped I W J X m (case_of_lem g.recalls.S.theory i) 46 0 new
-    having_unmet i e = having_apart i (subst (λ (z : Bool). MetBy I W J X m new (met g.meeting.T) list cells theta (Ok z)) e w)
+    pub having_unmet : (i : ℕ) → o ≡ nothing → Stopped I W J X m (case_of_lem g.recalls.S.theory i) 46 0 new
+    having_unmet i e = having_apart i (subst (λ (z : Option Found). MetBy I W J X m new (met g.meeting.T) list (Ok z)) e w)
 
   module _ {J X cells theta : List ℕ} {new : Mark} (w : Met I W J X m (met g.meeting.T) list cells theta new) where
     -- what `judge` asks

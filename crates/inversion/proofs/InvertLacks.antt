@@ -21,6 +21,7 @@ use Rattle.terms.specs.On.{Stopped, On, on_start, on_is, on_ok, on_no, on_pure, 
 use Rattle.terms.specs.Laws.Bound.{cells_zeros}
 use Rattle.kernel.specs.Entries.{rule_formed}
 use Rattle.state.specs.declared.sizes.Sizes.{Sizes}
+use Rattle.inversion.specs.declared.meeting.Met.{Met as Found}
 use Rattle.inversion.specs.InvertRules.{RuleVarsGiven, VarsMade, vars_with, Meeting, MetBy, meets, Lacking, Lacked, lacks}
 use Rattle.inversion.proofs.InvertNames.{with_length}
 
@@ -78,7 +79,7 @@ module _ {symbols rules rulevars patterns : List ℕ} {n : Sizes} {I W : List �
       numbers = ap (λ (j : ℕ). take j list) v ∙ are.numbers
 
       -- what `meet` asks
-      abbrev pub lack_meeting : Meeting symbols rules patterns n I W m r s k (take need list) (replicate RULEVARS 0)
+      abbrev pub lack_meeting : Meeting symbols rules patterns n I W m r s k (take need list)
       lack_meeting = record {
         T = g.T;
         formed = g.formed;
@@ -90,7 +91,6 @@ module _ {symbols rules rulevars patterns : List ℕ} {n : Sizes} {I W : List �
         many = sym lack_part ∙ v;
         names = λ i l. subst (λ (xs : List ℕ). get_or xs i 0 < k) (sym numbers)
             (omega (arith, up_below count (length R.vars) i (omega (arith, l, lack_part, v)), are.many));
-        cells = cells_zeros m.terms;
       }
 
       before : length (vars_with g.vs sorts count) ≡ count
@@ -114,14 +114,14 @@ module _ {symbols rules rulevars patterns : List ℕ} {n : Sizes} {I W : List �
       pub lack_stopped : {J X : List ℕ} {q d : ℕ} {new : Mark} → Stopped I W J X m met q d new → Stopped I W J X m K q d new
       lack_stopped x = on_no _ on_made x
 
-      module _ (J X bound theta : List ℕ) (new : Mark) {b : Bool} (w : MetBy I W J X m new met (take need list) bound theta (Ok b)) where
-        pub lack_found : b ≡ true → Stopped I W J X m K 47 0 new
-        lack_found e = on_refused (on_ok _ on_made (subst (λ (z : Bool). MetBy I W J X m new met (take need list) bound theta (Ok z)) e w).went)
+      module _ (J X : List ℕ) (new : Mark) {o : Option Found} (w : MetBy I W J X m new met (take need list) (Ok o)) where
+        pub lack_found : {a : Found} → o ≡ some a → Stopped I W J X m K 47 0 new
+        lack_found e = on_refused (on_ok _ on_made (subst (λ (z : Option Found). MetBy I W J X m new met (take need list) (Ok z)) e w).went)
 
-        pub lack_apart : b ≡ false → Lacked I W J X m g.vs K sorts' count k new
+        pub lack_apart : o ≡ nothing → Lacked I W J X m g.vs K sorts' count k new
         lack_apart e =
             record {
-              went = on_done (on_ok _ on_made (subst (λ (z : Bool). MetBy I W J X m new met (take need list) bound theta (Ok z)) e w));
+              went = on_done (on_ok _ on_made (subst (λ (z : Option Found). MetBy I W J X m new met (take need list) (Ok z)) e w));
               more = omega (arith, are.many);
               few = are.few;
               long = are.long;

@@ -1,7 +1,7 @@
 -- The renamed conclusion of a rule, unified with the hypothesis: what the calls ask, and what the definition answers. Assumes nothing.
 use mathlib.Core.Path.{◌≡◌, sym, ap, ◌∙◌, subst}
 use mathlib.Core.Bool.{Bool, true, false}
-use Rattle.std.specs.Prelude.{Option, Ok}
+use Rattle.std.specs.Prelude.{Option, None as nothing, Ok}
 use mathlib.Core.List.{List, [], ◌∷◌}
 use Prim.Native.Nat.{ℕ, suc, ◌+◌, ◌*◌, ◌<◌, ◌≤◌}
 use native.Mathlib.Omega.{arith}
@@ -26,9 +26,9 @@ use Rattle.terms.specs.Theta.{Zeros}
 use Rattle.terms.specs.Patterns.{Stands, Buildable, Builds, Stops, bound_of, Cells}
 use Rattle.unification.specs.declared.unify.Scratch.{Scratch as Tables}
 use Rattle.unification.specs.Unify.{Unifiable, Scratch, UnifiedAs}
-use Rattle.terms.specs.On.{Stopped, On, on_start, on_is, on_ok, on_no, on_went, on_stopped, refused_stopped}
+use Rattle.terms.specs.On.{Went, Stopped, On, on_start, on_is, on_ok, on_no, on_went, on_stopped, refused_stopped}
 use Rattle.unification.specs.Laws.Answers.{solved_went, unsolved_went}
-use Rattle.terms.specs.Laws.Bound.{build_is, bound_grown, cells_grown}
+use Rattle.terms.specs.Laws.Bound.{build_is, bound_grown, cells_grown, cells_zeros}
 use Rattle.terms.specs.Laws.Growth.{grown_tree, grown_there, grown_trans}
 use Rattle.terms.specs.Laws.Numbers.{made_closed}
 use Rattle.kernel.specs.Readers.{conclusion_at}
@@ -36,7 +36,7 @@ use Rattle.kernel.specs.Entries.{rule_formed}
 use Rattle.kernel.specs.RuleWords.{conclusion_stands}
 use Rattle.state.specs.declared.sizes.Sizes.{Sizes}
 use Rattle.casework.specs.Context.{There}
-use Rattle.inversion.specs.InvertRules.{Meeting, Empty, meets, MetBy, VarsKept}
+use Rattle.inversion.specs.InvertRules.{Meeting, Empty, meets, Met, VarsKept}
 use Rattle.inversion.specs.Inverting.{EmptyScratch, ScratchKept}
 
 -- What is made under a substitution --------------------------------------------------------------------------------------------------------------
@@ -82,8 +82,8 @@ there_all : (k : ℕ) (xs : List ℕ) → There k xs → All (λ v. v < k) xs
 there_all k [] t = empty
 there_all k (x ∷ xs) t = both {x = x} (t 0 (omega arith)) (there_all k xs (λ i l. t (suc i) (omega (arith, l))))
 
-module _ {symbols rules patterns : List ℕ} {n : Sizes} {I W : List ℕ} {m : Mark} {r s count : ℕ} {list first : List ℕ}
-    (g : Meeting symbols rules patterns n I W m r s count list first) where
+module _ {symbols rules patterns : List ℕ} {n : Sizes} {I W : List ℕ} {m : Mark} {r s count : ℕ} {list : List ℕ}
+    (g : Meeting symbols rules patterns n I W m r s count list) where
   abbrev R : Rule
   R = rule g.T r
 
@@ -96,8 +96,8 @@ module _ {symbols rules patterns : List ℕ} {n : Sizes} {I W : List ℕ} {m : M
   pub meet_short : length list ≤ RULEVARS
   meet_short = omega (arith, g.many, formed.few)
 
-  pub meet_keeps : Good I W m × There VARIABLES list × (length list ≤ RULEVARS) × Cells m.terms first
-  meet_keeps = (g.good, λ i l. omega (arith, g.names i l, g.few), meet_short, g.cells)
+  pub meet_keeps : Good I W m × There VARIABLES list × (length list ≤ RULEVARS) × Cells m.terms (replicate RULEVARS 0)
+  meet_keeps = (g.good, λ i l. omega (arith, g.names i l, g.few), meet_short, cells_zeros m.terms)
 
   pub meet_unkept : {J X : List ℕ} {q d : ℕ} {mid : Mark} → Stopped I W J X m (keep_vars list (made I W m)) q d mid → Stopped I W J X m K q d mid
   meet_unkept s = on_no _ (on_start g.good) s
@@ -164,13 +164,17 @@ module _ {symbols rules patterns : List ℕ} {n : Sizes} {I W : List ℕ} {m : M
         pub meet_full : {P Q : List ℕ} {row : ℕ} {new : Mark} → Refused (Option (List Binding)) Y Z P Q mark unified row new → Stopped I W P Q m K 60 row new
         meet_full x = on_stopped on_built (refused_stopped x)
 
-        pub meet_done : (P Q theta : List ℕ) (new : Mark) (b : Bool) → UnifiedAs Y Z P Q mark new theta unified (Ok b) → MetBy I W P Q m new K list into theta (Ok b)
-        meet_done P Q theta new true x =
-            let w = grown_trans builds.grown x.grown in
-            record {
-              went = on_went on_built (solved_went x);
-              theta_is = x.cells;
-              binds = λ i l. ap (λ (h : ℕ → Option Tree). h i) (bound_grown w kept.cells) ∙ kept.binds i l;
-              cells = cells_grown w kept.cells;
-            }
-        meet_done P Q theta new false x = on_went on_built (unsolved_went x.0)
+        module _ (P Q theta : List ℕ) (new : Mark) {b : Bool} (u : UnifiedAs Y Z P Q mark new theta unified (Ok b)) where
+          pub meet_done : b ≡ true → Met I W P Q m K list into theta new
+          meet_done e =
+              let x = subst (λ (z : Bool). UnifiedAs Y Z P Q mark new theta unified (Ok z)) e u in
+              let w = grown_trans builds.grown x.grown in
+              record {
+                went = on_went on_built (solved_went x);
+                theta_is = x.cells;
+                binds = λ i l. ap (λ (h : ℕ → Option Tree). h i) (bound_grown w kept.cells) ∙ kept.binds i l;
+                cells = cells_grown w kept.cells;
+              }
+
+          pub meet_apart : b ≡ false → Went I W P Q m K nothing new
+          meet_apart e = on_went on_built (unsolved_went (subst (λ (z : Bool). UnifiedAs Y Z P Q mark new theta unified (Ok z)) e u).0)

@@ -249,7 +249,6 @@ module _ {theory goals text symbols ins vars defs rules rulevars patterns facts 
                         few = g.few;
                         many = ap length list_is ∙ are.many;
                         names = list_low;
-                        cells = cells_zeros m.terms;
                       };
                   theory = refl;
                   there = g.judgment_there;

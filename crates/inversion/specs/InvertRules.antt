@@ -34,6 +34,7 @@ use Rattle.state.specs.Rows.{hyps_span}
 use Rattle.state.specs.Entries.{part}
 use Rattle.state.specs.Held.{VarsHeld, Names as Texts, RuleLists, Ruled}
 use Rattle.referring.specs.Recall.{Refers, Recalls, fact_of}
+use Rattle.inversion.specs.declared.meeting.Met.{Met as Found}
 use Rattle.casework.specs.Cases.{CaseItem, no_case}
 use Rattle.casework.specs.Context.{IDS, There, RenamedRule, RestsGiven, rests_by}
 
@@ -125,7 +126,7 @@ pub record Empty (map memo pairs seen : List ℕ) : Type 0 where
   pub many : pairs ≡ replicate (2 * PAIRS) 0
   pub visits : seen ≡ replicate TERMWORDS 0
 
-pub record Meeting (symbols rules patterns : List ℕ) (n : Sizes) (I W : List ℕ) (m : Mark) (r s count : ℕ) (list bound : List ℕ) : Type 0 where
+pub record Meeting (symbols rules patterns : List ℕ) (n : Sizes) (I W : List ℕ) (m : Mark) (r s count : ℕ) (list : List ℕ) : Type 0 where
   pub T : Theory
   pub formed : FormedRules symbols rules patterns n.rules T
   pub known : r < n.rules
@@ -135,7 +136,6 @@ pub record Meeting (symbols rules patterns : List ℕ) (n : Sizes) (I W : List �
   pub few : count ≤ VARIABLES
   pub many : length list ≡ length (rule T r).vars
   pub names : There count list
-  pub cells : Cells m.terms bound
 
 -- the renamed conclusion and the hypothesis are unified
 abbrev pub meets : List ℕ → ℕ → Tree → Rule → Act Made (Option (List Binding))
@@ -151,10 +151,10 @@ pub record Met (I W J X : List ℕ) (old : Mark) (K : Out Made (Option (List Bin
   pub binds : (i : ℕ) → i < length list → bound_of (made J X new) bound i ≡ some (renaming list i)
   pub cells : Cells new.terms bound
 
-abbrev pub MetBy : List ℕ → List ℕ → List ℕ → List ℕ → Mark → Mark → Out Made (Option (List Binding)) → List ℕ → List ℕ → List ℕ → Result Bool Question → Type 0
-MetBy I W J X old new K list bound theta (Ok true) = Met I W J X old K list bound theta new
-MetBy I W J X old new K list bound theta (Ok false) = Went I W J X old K nothing new
-MetBy I W J X old new K list bound theta (Err q) = Stopped I W J X old K (number_of q) (detail_of q) new
+abbrev pub MetBy : List ℕ → List ℕ → List ℕ → List ℕ → Mark → Mark → Out Made (Option (List Binding)) → List ℕ → Result (Option Found) Question → Type 0
+MetBy I W J X old new K list (Ok (some a)) = Met I W J X old K list a.bound a.theta new
+MetBy I W J X old new K list (Ok nothing) = Went I W J X old K nothing new
+MetBy I W J X old new K list (Err q) = Stopped I W J X old K (number_of q) (detail_of q) new
 
 -- A case is judged -------------------------------------------------------------------------------------------------------------------------
 
@@ -245,7 +245,7 @@ LackedBy I W J X old new vs K sorts base count (Err q) = Stopped I W J X old K (
 
 pub record Having (symbols rules patterns facts lists : List ℕ) (n : Sizes) (I W : List ℕ) (m : Mark) (r s j : ℕ) (list context : List ℕ) (count : ℕ) (ids : List ℕ) : Type 0 where
   pub recalls : Recalls facts lists n I W m
-  pub meeting : Meeting symbols rules patterns n I W m r s count list (replicate RULEVARS 0)
+  pub meeting : Meeting symbols rules patterns n I W m r s count list
   pub theory : meeting.T ≡ recalls.S.theory
   pub there : j < m.terms
   pub known : There n.facts context

@@ -1,5 +1,5 @@
 -- What is inverted, as it is lent, beside a store, and what is answered. Each is the relation of the same meaning over plain tables. Assumes nothing.
-use Rattle.std.specs.Prelude.{◌≡◌, Bool, List, ℕ, Option, Result}
+use Rattle.std.specs.Prelude.{◌≡◌, List, ℕ, Option, Result}
 use Rattle.rules.specs.Out.{Out}
 use Rattle.rules.specs.Store.{Made}
 use Rattle.rules.specs.Unify.{Binding}
@@ -15,6 +15,7 @@ use Rattle.referring.specs.declared.source.Source.{Source}
 use Rattle.referring.specs.Sources.{source_names, rules_of}
 use Rattle.casework.specs.declared.context.Renamed.{Renamed}
 use Rattle.inversion.specs.declared.inverting.Inverting.{Inverting}
+use Rattle.inversion.specs.declared.meeting.Met.{Met}
 use Rattle.inversion.specs.declared.inverting.Variables.{Variables}
 use Rattle.inversion.specs.declared.inverting.Renaming.{Renaming}
 use Rattle.inversion.specs.declared.inverting.RuleVars.{RuleVars}
@@ -44,12 +45,12 @@ CaseVarsIn v cells u = let x = v.source.reader in CaseVarsGiven x.goals.now x.te
 abbrev pub KeptAs : Store → Store → List ℕ → List ℕ → Result (Unit {0}) Row → Type 0
 KeptAs s t list into r = KeptBy s.index.now s.words.now t.index.now t.words.now s.mark t.mark list into r
 
-abbrev pub MeetingIn : Inverting → Store → Renaming → List ℕ → Type 0
-MeetingIn v s own bound =
-    Meeting v.source.reader.symbols.now v.rules.rows.now v.rules.patterns.now v.source.reader.n s.index.now s.words.now s.mark own.rule v.hypothesis own.count own.vars.now bound
+abbrev pub MeetingIn : Inverting → Store → Renaming → Type 0
+MeetingIn v s own =
+    Meeting v.source.reader.symbols.now v.rules.rows.now v.rules.patterns.now v.source.reader.n s.index.now s.words.now s.mark own.rule v.hypothesis own.count own.vars.now
 
-abbrev pub MetAs : Store → Store → Out Made (Option (List Binding)) → List ℕ → List ℕ → List ℕ → Result Bool Question → Type 0
-MetAs s t K list bound theta r = MetBy s.index.now s.words.now t.index.now t.words.now s.mark t.mark K list bound theta r
+abbrev pub MetAs : Store → Store → Out Made (Option (List Binding)) → List ℕ → Result (Option Met) Question → Type 0
+MetAs s t K list r = MetBy s.index.now s.words.now t.index.now t.words.now s.mark t.mark K list r
 
 -- t: the case's judgment
 abbrev pub JudgingIn : Inverting → Store → Renamed → ℕ → List ℕ → List ℕ → Type 0

@@ -1,5 +1,5 @@
 // Where a rule meets the hypothesis: its variables, renamed, as terms, and its conclusion over them unified with the hypothesis.
-ghost use Rattle.std.specs.Prelude.{◌≡◌, ◌≤◌, length, replicate};
+ghost use Rattle.std.specs.Prelude.{◌≤◌, length};
 ghost use Rattle.rules.specs.Limits.{VARIABLES, RULEVARS};
 ghost use Rattle.rules.specs.Theory.{rule};
 ghost use Rattle.terms.specs.Table.{tree};
@@ -12,9 +12,17 @@ ghost use Rattle.inversion.specs.Inverting.{EmptyScratch, ScratchKept, KeptAs, M
 
 use crate::inverting::{Inverting, Renaming};
 use questions::{Question, Row};
+use rules::{RULEVARS, VARIABLES};
 use terms::patterns::Patterns;
 use terms::store::Store;
 use unification::unify::{Scratch, unify};
+
+// Where a rule meets the hypothesis: the terms of its variables, and the unifier, each in cells.
+#[derive(Clone, Copy)]
+pub struct Met {
+    pub bound: [u32; RULEVARS],
+    pub theta: [u32; VARIABLES],
+}
 
 // Variables as terms: their numbers with 1 added come into the first cells, and 0 stands for none: what `substitute` and patterns read.
 fn keep_vars(store: &mut Store<'_>, list: &[u32], bound: &mut [u32]) -> Result<(), Row>
@@ -30,40 +38,43 @@ fn keep_vars(store: &mut Store<'_>, list: &[u32], bound: &mut [u32]) -> Result<(
 }
 
 impl Inverting<'_> {
-    // Whether the rule meets the hypothesis: the terms of its variables come into `bound`, and the unifier, where there is one, into `theta`, which is
-    // zero before. `scratch` is zero before and after.
+    // Where the rule meets the hypothesis; none where they have no unifier. `scratch` is zero before and after.
     pub fn meet(
         &self,
         store: &mut Store<'_>,
         own: &Renaming<'_>,
-        bound: &mut [u32],
-        theta: &mut [u32],
         scratch: &mut Scratch<'_>,
-    ) -> Result<bool, Question>
-        requires meeting { MeetingIn self.now store.old own.now bound.old }
-        requires empty { (theta.old ≡ replicate VARIABLES 0) × EmptyScratch scratch.old }
+    ) -> Result<Option<Met>, Question>
+        requires meeting { MeetingIn self.now store.old own.now }
+        requires empty { EmptyScratch scratch.old }
         ensures same_tables { SameTables store.old store.new }
-        ensures met_as { (g : MeetingIn self.now store.old own.now bound.old) → let s = store.old in
+        ensures met_as { (g : MeetingIn self.now store.old own.now) → let s = store.old in
             MetAs s store.new (meets own.now.vars.now own.now.count (tree s.index.now s.words.now s.mark self.now.hypothesis) (rule g.T own.now.rule) (made_of s))
-            own.now.vars.now bound.new theta.new result }
+            own.now.vars.now result }
         ensures same_scratch { SameScratch scratch.old scratch.new }
         ensures scratch_kept { ScratchKept scratch.old scratch.new }
     {
-        keep_vars(store, own.vars, bound)?;
+        let mut bound = [0u32; RULEVARS];
+        keep_vars(store, own.vars, &mut bound)?;
         let symbols = self.source.reader.symbols;
         let at = self.rules.conclusion(symbols, own.rule);
         let patterns = Patterns {
             symbols,
             words: self.rules.patterns,
         };
-        let built = patterns.build(store, bound, at)?;
-        Ok(unify(
+        let built = patterns.build(store, &bound, at)?;
+        let mut theta = [0u32; VARIABLES];
+        let count = own.count;
+        if !unify(
             store,
-            own.count,
+            count,
             self.hypothesis,
             built.term,
-            theta,
+            &mut theta,
             scratch,
-        )?)
+        )? {
+            return Ok(None);
+        }
+        Ok(Some(Met { bound, theta }))
     }
 }

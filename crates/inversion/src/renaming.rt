@@ -86,9 +86,8 @@ impl Inverting<'_> {
         ensures { (g : CaseVarsIn self.now cells.now need.now) →
             CaseVarsAs g.S (rule g.S.theory need.now.rule).vars g.c taken.old taken.new list.new result }
     {
-        let mut out = [0u32; VARIABLES];
-        let case = read_case(&self.source.reader, cells, &mut out)?;
-        let own = &out[..case.variables];
+        let case = read_case(&self.source.reader, cells)?;
+        let own = &case.own[..case.variables];
         if !need.suits(self.source.reader.vars, own) || !all_new(own, taken) {
             return Err(Question::CaseVariables);
         }

@@ -52,8 +52,6 @@ impl Inverting<'_> {
         ensures scratch_kept { ScratchKept scratch.old scratch.new }
     {
         let mut list = [0u32; RULEVARS];
-        let mut bound = [0u32; RULEVARS];
-        let mut theta = [0u32; VARIABLES];
         let need = RuleVars {
             rules: self.rules,
             rule: r,
@@ -65,10 +63,10 @@ impl Inverting<'_> {
             vars: &list[..need.count],
             count: names.count,
         };
-        if self.meet(store, &own, &mut bound, &mut theta, scratch)? {
-            return Err(Question::MissingCase);
+        match self.meet(store, &own, scratch)? {
+            None => Ok(()),
+            Some(_) => Err(Question::MissingCase),
         }
-        Ok(())
     }
 
     // A rule with a case, whose variables are those of the renaming, and whose fact is i: it must meet the hypothesis, and the case is judged.
@@ -90,15 +88,13 @@ impl Inverting<'_> {
         ensures scratch_kept { ScratchKept scratch.old scratch.new }
         ensures ids_unchanged { ids.new ≡ ids.old }
     {
-        let mut bound = [0u32; RULEVARS];
-        let mut theta = [0u32; VARIABLES];
-        if !self.meet(store, own, &mut bound, &mut theta, scratch)? {
+        let Some(met) = self.meet(store, own, scratch)? else {
             return Err(Question::CannotConclude);
-        }
+        };
         let renamed = Renamed {
             rule: own.rule,
-            bound: &bound,
-            theta: &theta,
+            bound: &met.bound,
+            theta: &met.theta,
         };
         let memo = &mut *scratch.memo;
         self.judge(store, &renamed, i, memo, ids)

@@ -13,13 +13,13 @@ loop-item-init c = rw (c.into_iter-item-iterator.ensures.into_iter_gives, c.all-
 pub read_case-requires : goal.read_case-requires
 read_case-requires c =
     let h = here c.loop-item.invariant.cells c.in-Some.ensures.steps in
-    (rw h.is (item_now c.requires.0 (c.loop-item.invariant.casing c.requires.0) h.inside), refl)
+    rw h.is (item_now c.requires.0 (c.loop-item.invariant.casing c.requires.0) h.inside)
 
 pub returns-in_err-case : goal.returns-in_err-case
 returns-in_err-case c = λ g.
     let h = here c.loop-item.invariant.cells c.in-Some.ensures.steps in
     let e = (rw h.is at c.in_err-case.ensures) (item_now g (c.loop-item.invariant.casing g) h.inside) in
-    rw (handed c.from_residual.result c.from_residual.ensures) (casing_no (c.loop-item.invariant.casing g) h.inside _ _ e.0, e.1.1)
+    rw (handed c.from_residual.result c.from_residual.ensures) (casing_no (c.loop-item.invariant.casing g) h.inside _ _ e.0, e.1)
 
 pub atom_end-end-requires : goal.atom_end-end-requires
 atom_end-end-requires c =

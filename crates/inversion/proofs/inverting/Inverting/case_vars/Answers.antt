@@ -1,41 +1,41 @@
 use mathlib.Core.Path.{refl, ap}
 use mathlib.Core.Bool.{not}
-use Rattle.inversion.proofs.InvertCaseVars.{case_never, case_room, case_long, case_words, case_suits, case_unsuited, case_short, case_taken, case_new}
+use Rattle.inversion.proofs.InvertCaseVars.{case_never, case_fits, case_long, case_words, case_suits, case_unsuited, case_short, case_taken, case_new}
 use Rattle.inversion.proofs.inverting.Inverting.case_vars.Goals as goal
 use Rattle.inversion.proofs.inverting.Inverting.case_vars.Goals.{then-not-suits-via-then-not-suits, then-not-suits-via-else-not-suits+then-not-all_new}
 
 pub returns-in_err-case : goal.returns-in_err-case
 returns-in_err-case c = λ g. case_never g (λ w M. (c.in_err-case.ensures w).0 M)
 
-pub slice_bounds-out-end : goal.slice_bounds-out-end
-slice_bounds-out-end c = case_room c.requires.0 c.read_case.new.out c.in_ok-case.ensures
+pub shared_ref_as_front-own : goal.shared_ref_as_front-own
+shared_ref_as_front-own c = case_fits c.requires.0 c.in_ok-case.ensures
 
 pub slice_bounds-own-end : goal.slice_bounds-own-end
-slice_bounds-own-end c = case_long c.requires.0 c.read_case.new.out c.in_ok-case.ensures
+slice_bounds-own-end c = case_long c.requires.0 c.in_ok-case.ensures
 
 pub suits-requires : goal.suits-requires
-suits-requires c = case_suits c.requires.0 c.read_case.new.out c.in_ok-case.ensures
+suits-requires c = case_suits c.requires.0 c.in_ok-case.ensures
 
 pub returns-then-not-suits : goal.returns-then-not-suits
 returns-then-not-suits c = λ g. (
   refl,
   elim c.then-not-suits.branch [
-    | then-not-suits-via-then-not-suits w ↦ case_unsuited g c.read_case.new.out c.in_ok-case.ensures c.suits.ensures c.args.taken.now (ap not w.if-not-suits.true)
-    | then-not-suits-via-else-not-suits+then-not-all_new w ↦ case_taken g c.read_case.new.out c.in_ok-case.ensures c.suits.ensures
+    | then-not-suits-via-then-not-suits w ↦ case_unsuited g c.in_ok-case.ensures c.suits.ensures c.args.taken.now (ap not w.if-not-suits.true)
+    | then-not-suits-via-else-not-suits+then-not-all_new w ↦ case_taken g c.in_ok-case.ensures c.suits.ensures
         (ap not w.if-not-suits.false) c.args.taken.now w.all_new.ensures (ap not w.if-not-all_new.true)
   ],
 )
 
 pub all_new-requires : goal.all_new-requires
-all_new-requires c = case_words c.requires.0 c.read_case.new.out c.in_ok-case.ensures c.args.taken.now c.requires.1
+all_new-requires c = case_words c.requires.0 c.in_ok-case.ensures c.args.taken.now c.requires.1
 
 pub insert_all-requires : goal.insert_all-requires
-insert_all-requires c = case_words c.requires.0 c.read_case.new.out c.in_ok-case.ensures c.args.taken.now c.requires.1
+insert_all-requires c = case_words c.requires.0 c.in_ok-case.ensures c.args.taken.now c.requires.1
 
 pub write-requires : goal.write-requires
-write-requires c = case_short c.requires.0 c.read_case.new.out c.in_ok-case.ensures c.suits.ensures
+write-requires c = case_short c.requires.0 c.in_ok-case.ensures c.suits.ensures
     (ap not c.if-not-suits.false) c.args.list.now c.requires.2
 
 pub returns : goal.returns
-returns c = λ g. case_new g c.read_case.new.out c.in_ok-case.ensures c.suits.ensures
+returns c = λ g. case_new g c.in_ok-case.ensures c.suits.ensures
     (ap not c.if-not-suits.false) c.args.taken.now c.all_new.ensures c.args.list.now (ap not c.if-not-all_new.false) c.insert_all.ensures c.write.ensures

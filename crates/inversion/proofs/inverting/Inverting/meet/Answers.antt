@@ -1,5 +1,6 @@
+use mathlib.Core.Path.{refl}
 use Rattle.std.proofs.lemmas.Result.{err_from_is_err_and}
-use Rattle.inversion.proofs.InvertMeets.{meet_keeps, meet_unkept, meet_stands, meet_buildable, meet_unbuilt, meet_unifiable, meet_full, meet_done}
+use Rattle.inversion.proofs.InvertMeets.{meet_keeps, meet_unkept, meet_stands, meet_buildable, meet_unbuilt, meet_unifiable, meet_full, meet_done, meet_apart}
 use Rattle.inversion.proofs.inverting.Inverting.meet.Goals as goal
 
 pub keep_vars-requires : goal.keep_vars-requires
@@ -25,7 +26,7 @@ unify-requires c =
     let g = c.requires.meeting in
     let at = c.conclusion-at.ensures g.T _ g.formed g.known in
     let kept = c.in_ok-keep_vars.ensures.kept_as in
-    meet_unifiable g kept at (c.in_ok-built.ensures.built _ (meet_stands g kept at)).says c.requires.empty.0 c.requires.empty.1
+    meet_unifiable g kept at (c.in_ok-built.ensures.built _ (meet_stands g kept at)).says refl c.requires.empty
 
 pub returns-in_err-unify-clause-met_as : goal.returns-in_err-unify-clause-met_as
 returns-in_err-unify-clause-met_as c = λ g.
@@ -38,4 +39,10 @@ pub returns-clause-met_as : goal.returns-clause-met_as
 returns-clause-met_as c = λ g.
     let at = c.conclusion-at.ensures g.T _ g.formed g.known in
     let kept = c.in_ok-keep_vars.ensures.kept_as in
-    meet_done g kept at (c.in_ok-built.ensures.built _ (meet_stands g kept at)).says _ _ _ _ _ c.in_ok-unify.ensures.unified_by.says
+    meet_done g kept at (c.in_ok-built.ensures.built _ (meet_stands g kept at)).says _ _ _ _ c.in_ok-unify.ensures.unified_by.says c.if-not-branch.false
+
+pub returns-then-not-branch-clause-met_as : goal.returns-then-not-branch-clause-met_as
+returns-then-not-branch-clause-met_as c = λ g.
+    let at = c.conclusion-at.ensures g.T _ g.formed g.known in
+    let kept = c.in_ok-keep_vars.ensures.kept_as in
+    meet_apart g kept at (c.in_ok-built.ensures.built _ (meet_stands g kept at)).says _ _ _ _ c.in_ok-unify.ensures.unified_by.says c.if-not-branch.true

@@ -34,14 +34,14 @@ returns-in_err-meet-clause-lacked_as c = λ g.
     let p = err_from_is_err_and c.from_residual-in_err-meet.result c.from_residual-in_err-meet.ensures.1 in
     rw (p.1, p.2) (lack_stopped g v c.in_ok-make.ensures.made_as c.make.auto.list (c.in_err-meet.ensures.met_as m))
 
-pub returns-then-branch-clause-lacked_as : goal.returns-then-branch-clause-lacked_as
-returns-then-branch-clause-lacked_as c = λ g.
+pub returns-in-Some-clause-lacked_as : goal.returns-in-Some-clause-lacked_as
+returns-in-Some-clause-lacked_as c = λ g.
     let v = c.variables.ensures g.T _ _ _ _ _ g.formed.held g.known in
     let m = lack_meeting g v c.in_ok-make.ensures.made_as c.make.auto.list in
-    lack_found g v c.in_ok-make.ensures.made_as c.make.auto.list _ _ _ _ _ (c.in_ok-meet.ensures.met_as m) c.if-branch.true
+    lack_found g v c.in_ok-make.ensures.made_as c.make.auto.list _ _ _ (c.in_ok-meet.ensures.met_as m) c.in-Some.is
 
-pub returns-clause-lacked_as : goal.returns-clause-lacked_as
-returns-clause-lacked_as c = λ g.
+pub returns-in-None-clause-lacked_as : goal.returns-in-None-clause-lacked_as
+returns-in-None-clause-lacked_as c = λ g.
     let v = c.variables.ensures g.T _ _ _ _ _ g.formed.held g.known in
     let m = lack_meeting g v c.in_ok-make.ensures.made_as c.make.auto.list in
-    lack_apart g v c.in_ok-make.ensures.made_as c.make.auto.list _ _ _ _ _ (c.in_ok-meet.ensures.met_as m) c.if-branch.false
+    lack_apart g v c.in_ok-make.ensures.made_as c.make.auto.list _ _ _ (c.in_ok-meet.ensures.met_as m) c.in-None.is
