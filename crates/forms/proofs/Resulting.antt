@@ -8,25 +8,21 @@ use native.Mathlib.Omega.{arith}
 use lib.Dec.{eqb}
 use lib.ListN.{length, take, drop, set}
 use borrow.Author.Tests.{eq-eqb, ne_eqb, not-true, not-false}
-use Rattle.rules.specs.Lex.{letters}
 use Rattle.rules.specs.Out.{Out, ok, refuse, then, ask, found}
 use Rattle.rules.specs.Find.{entry, all, change}
 use Rattle.rules.specs.Text.{same}
-use Rattle.rules.specs.Sexp.{Sexp, Sexps, atom, list, item, name}
+use Rattle.rules.specs.Sexp.{Sexp, Sexps, atom, list, item, rest, name}
 use Rattle.rules.specs.Tree.{same_tree}
 use Rattle.rules.specs.Store.{Made}
 use Rattle.rules.specs.State.{State, Goal, goal_named}
 use Rattle.rules.specs.Reference.{Ref, reference}
 use Rattle.rules.specs.Forms.{with_made, with_goals, making, listed, taken_goal, result}
 use Rattle.rules.specs.Laws.Find.{first_some}
+use Rattle.rules.specs.Laws.Sexp.{item_rest}
 use Rattle.rules.proofs.Laws.ReadWalk.{reference_keeps}
 use Rattle.sexp.specs.Encode.{encodes}
-use Rattle.sexp.specs.Items.{item_of, place}
-use Rattle.sexp.specs.NthItem.{nth_text, nth_part, place_high}
-use Rattle.sexp.specs.AtomText.{AtomText, atom_part, atom_high}
-use Rattle.sexp.specs.FoundLaws.{found_at, found_missing}
-use Rattle.sexp.specs.declared.items.Item.{Item}
-use Rattle.sexp.specs.declared.items.Item.TheVariants.{Atom, List as Part}
+use Rattle.sexp.specs.Items.{Holds, Held, place}
+use Rattle.sexp.specs.NthItem.{place_high, rest_holds}
 use Rattle.terms.specs.declared.store.Mark.{Mark}
 use Rattle.terms.specs.Table.{made, tree}
 use Rattle.terms.specs.On.{Stopped}
@@ -128,64 +124,64 @@ module _ {K : Names} {rows facts lists : List ℕ} {n : Sizes} {I W : List ℕ} 
   first_halts : {q d : ℕ} → answer ≡ refuse q d g.S → Halts I W I W m g.S answer q d m
   first_halts e = halts_first g.refers.reads.good (refers_ready g.refers) g.store e
 
-  module _ {x : Item} (a : (ys : Sexps) → cells ≡ encodes ys → x ≡ item_of (place ys 1) (item ys 1)) where
-    pub no_name : {u w : ℕ} → x ≡ Part u w → Halts I W I W m g.S (result g.xs g.S) 50 0 m
-    no_name e = first_halts (result_unnamed g.xs g.S (nth_part g.holds 1 a (omega (arith, g.many)) e).is)
+  module _ {at : ℕ} (a : (ys : Sexps) → cells ≡ encodes ys → at ≡ place ys 1) where
+    pub name_high : at ≤ length cells
+    name_high = place_high g.holds 1 a
 
-    module _ {start : ℕ} (e : x ≡ Atom start) where
-      pub name_text : AtomText K.text (item g.xs 1) start
-      name_text = nth_text g.holds 1 a e
+    -- the name, and what is behind it
+    abbrev behind : List ℕ
+    behind = take (length cells - at) (drop at cells)
 
-      pub name_inside : start ≤ length K.text
-      name_inside = omega (arith, name_text.inside)
+    pub name_held : Held K.text behind
+    name_held = (rest g.xs 1, rest_holds g.holds 1 a)
 
-      module _ {end : ℕ} (f : end ≡ start + length (letters (drop start K.text))) where
-        pub name_high : end ≤ length K.text
-        name_high = atom_high K.text start end name_text.inside f
+    pub no_name : ((ys : Sexps) → Holds K.text behind ys → (zs : Sexps) × (item ys 0 ≡ list zs)) → Halts I W I W m g.S (result g.xs g.S) 50 0 m
+    no_name b = let y = b (rest g.xs 1) (rest_holds g.holds 1 a) in first_halts (result_unnamed g.xs g.S (sym (item_rest g.xs 1 0) ∙ y.1))
 
-        module _ {r : Option ℕ}
-            (b : (M : Made) (gs : List Goal) → GoalsHeld K.goals rows n.goals M gs → r ≡ (goal_named gs (take (end - start) (drop start K.text)))) where
-          looked : r ≡ (goal_named g.S.goals (letters (drop start K.text)))
-          looked = b (made I W m) g.S.goals g.held
-              ∙ ap (λ (z : List ℕ). (goal_named g.S.goals z)) (atom_part K.text start end name_text.inside f)
+    module _ {name : List ℕ} (b : (ys : Sexps) → Holds K.text behind ys → (p : ℕ) × (item ys 0 ≡ atom p name)) where
+      name_is : (p : ℕ) × (item g.xs 1 ≡ atom p name)
+      name_is = let y = b (rest g.xs 1) (rest_holds g.holds 1 a) in (y.0, sym (item_rest g.xs 1 0) ∙ y.1)
 
-          pub no_goal_lem : r ≡ nothing → Halts I W I W m g.S (result g.xs g.S) 50 0 m
-          no_goal_lem q =
-              first_halts (result_unknown_lem g.xs g.S name_text.is (found_missing (goal_named g.S.goals (letters (drop start K.text))) r looked q))
+      module _ {r : Option ℕ} (l : (M : Made) (gs : List Goal) → GoalsHeld K.goals rows n.goals M gs → r ≡ (goal_named gs name)) where
+        looked : r ≡ (goal_named g.S.goals name)
+        looked = l (made I W m) g.S.goals g.held
 
-          module _ {k : ℕ} (q : r ≡ some k) where
-            is_goal : goal_named g.S.goals (letters (drop start K.text)) ≡ some k
-            is_goal = found_at (goal_named g.S.goals (letters (drop start K.text))) r k looked q
+        pub no_goal_lem : r ≡ nothing → Halts I W I W m g.S (result g.xs g.S) 50 0 m
+        no_goal_lem q = first_halts (result_unknown_lem g.xs g.S name_is.1 (sym looked ∙ q))
 
-            pub goal_there : k < n.goals
-            goal_there = omega (arith, named_inside g.S.goals (letters (drop start K.text)) k is_goal, g.held.many)
+        module _ {k : ℕ} (q : r ≡ some k) where
+          is_goal : goal_named g.S.goals name ≡ some k
+          is_goal = sym looked ∙ q
 
-            -- what the readers of a goal ask
-            pub goal_asks : GoalAt rows k
-            goal_asks = (goals_long g.held, omega (arith, goal_there, g.held.few))
+          pub goal_there : k < n.goals
+          goal_there = omega (arith, named_inside g.S.goals name k is_goal, g.held.many)
 
-            row : GoalRow rows lists (made I W m) g.S.goals k (goal_of g.S k)
-            row = goal_row_of k g.refers.recorded g.held goal_there
+          -- what the readers of a goal ask
+          pub goal_asks : GoalAt rows k
+          goal_asks = (goals_long g.held, omega (arith, goal_there, g.held.few))
 
-            module _ {t : Bool} (u : t ≡ not (eqb (cell 6 rows k 5) 0)) where
-              pub goal_taken : t ≡ true → Halts I W I W m g.S (result g.xs g.S) 50 0 m
-              goal_taken v = first_halts (result_twice_lem g.xs g.S name_text.is is_goal row.is (sym row.taken ∙ sym u ∙ v))
+          row : GoalRow rows lists (made I W m) g.S.goals k (goal_of g.S k)
+          row = goal_row_of k g.refers.recorded g.held goal_there
 
-              pub goal_open : t ≡ false → Aiming g k
-              goal_open v =
-                  record {
-                    there = goal_there;
-                    row = row;
-                    on = reopen (result_open g.xs g.S name_text.is is_goal row.is (sym row.taken ∙ sym u ∙ v));
-                  }
-                where
-                  reopen : result g.xs g.S ≡ then (making (reference g.S (item g.xs 2)) g.S) (after_ref g.xs g.S k (goal_of g.S k)) →
-                      Reached I W m g.S (result g.xs g.S) I W m
-                      (then (making (reference g.S (item g.xs 2)) (with_made g.S (made I W m))) (after_ref g.xs g.S k (goal_of g.S k)))
-                  reopen e =
-                      let s = reached_start g.refers.reads.good (refers_ready g.refers) g.store
-                      (λ T. then (making (reference g.S (item g.xs 2)) T) (after_ref g.xs g.S k (goal_of g.S k))) in
-                      record { makes = s.makes; here = e ∙ s.here }
+          module _ {t : Bool} (u : t ≡ not (eqb (cell 6 rows k 5) 0)) where
+            pub goal_taken : t ≡ true → Halts I W I W m g.S (result g.xs g.S) 50 0 m
+            goal_taken v = first_halts (result_twice_lem g.xs g.S name_is.1 is_goal row.is (sym row.taken ∙ sym u ∙ v))
+
+            pub goal_open : t ≡ false → Aiming g k
+            goal_open v =
+                record {
+                  there = goal_there;
+                  row = row;
+                  on = reopen (result_open g.xs g.S name_is.1 is_goal row.is (sym row.taken ∙ sym u ∙ v));
+                }
+              where
+                reopen : result g.xs g.S ≡ then (making (reference g.S (item g.xs 2)) g.S) (after_ref g.xs g.S k (goal_of g.S k)) →
+                    Reached I W m g.S (result g.xs g.S) I W m
+                    (then (making (reference g.S (item g.xs 2)) (with_made g.S (made I W m))) (after_ref g.xs g.S k (goal_of g.S k)))
+                reopen e =
+                    let s = reached_start g.refers.reads.good (refers_ready g.refers) g.store
+                    (λ T. then (making (reference g.S (item g.xs 2)) T) (after_ref g.xs g.S k (goal_of g.S k))) in
+                    record { makes = s.makes; here = e ∙ s.here }
 
 -- The reference ---------------------------------------------------------------------------------------------------------------------
 

@@ -19,8 +19,7 @@ use questions::Question;
 use referring::references::insert_all;
 use referring::source::{Facts, source_of};
 use rules::TERMWORDS;
-use sexp::items::Item;
-use sexp::{items, lex};
+use sexp::items;
 use state::board::{Board, Given};
 use state::facts::{is_plain, judgment};
 use state::goals::{goal_hyps, goal_judgment, goal_named, is_taken, take_goal};
@@ -76,12 +75,11 @@ fn met(
         MetAs board.now store.old store.new g.S (result_of g.xs g.S) result }
     ensures memo_unchanged { memo.new ≡ memo.old }
 {
-    let Item::Atom(start) = items::nth(cells, 1) else {
+    let first = items::place(cells, 1);
+    let Some(name) = items::head(given.text, &cells[first..]) else {
         return Err(Question::ResultName);
     };
-    let text = given.text;
-    let end = lex::atom_end(text, start);
-    let Some(k) = goal_named(given.goals, board.rows, board.n.goals, &text[start..end]) else {
+    let Some(k) = goal_named(given.goals, board.rows, board.n.goals, name) else {
         return Err(Question::ResultName);
     };
     if is_taken(board.rows, k) {
