@@ -14,16 +14,17 @@ use Rattle.rules.specs.Limits.{SORTS, VARIABLES}
 use Rattle.rules.specs.Text.{same}
 use Rattle.rules.specs.Lex.{letters}
 use Rattle.rules.specs.Out.{Out, ok, refuse, then, ask, room, found}
-use Rattle.rules.specs.Sexp.{Sexp, Sexps, atom, list, item, Name, name, marked}
+use Rattle.rules.specs.Sexp.{Sexp, Sexps, atom, list, item, rest, Name, name, marked}
 use Rattle.rules.specs.Theory.{Theory, no_name, sort_named, constructor_named, predicate_named}
 use Rattle.rules.specs.Declare.{is_new}
 use Rattle.rules.specs.State.{State, Var, var_named}
 use Rattle.rules.specs.Forms.{with_vars, add_var}
 use Rattle.rules.specs.Laws.Find.{first_some}
+use Rattle.rules.specs.Laws.Sexp.{item_rest}
 use Rattle.sexp.specs.Encode.{encodes}
-use Rattle.sexp.specs.Items.{item_of, place}
-use Rattle.sexp.specs.FoundLaws.{found_at, found_missing}
-use Rattle.sexp.specs.NthItem.{nth_text, nth_part}
+use Rattle.sexp.specs.Items.{Holds, Held, item_of, place}
+use Rattle.sexp.specs.FoundLaws.{found_at}
+use Rattle.sexp.specs.NthItem.{nth_text, nth_part, place_high, rest_holds}
 use Rattle.sexp.specs.AtomText.{AtomText, atom_part, atom_high, atom_named}
 use Rattle.sexp.specs.declared.items.Item.{Item}
 use Rattle.sexp.specs.declared.items.Item.TheVariants.{Atom, List as Part}
@@ -161,34 +162,42 @@ module _ {theory goals text sorts symbols vars : List ℕ} {n : Sizes} {cells : 
       pub var_name_lem : AtomText text (item g.xs 1) start
       var_name_lem = nth_text g.holds 1 a e
 
-      module _ {y : Item} (b : (ys : Sexps) → cells ≡ encodes ys → y ≡ item_of (place ys 2) (item ys 2)) where
+      module _ {at : ℕ} (b : (ys : Sexps) → cells ≡ encodes ys → at ≡ place ys 2) where
+        pub var_sort_high : at ≤ length cells
+        var_sort_high = place_high g.holds 2 b
+
+        -- the sort, and what is behind it
+        abbrev behind : List ℕ
+        behind = take (length cells - at) (drop at cells)
+
+        pub var_sort_held : Held text behind
+        var_sort_held = (rest g.xs 2, rest_holds g.holds 2 b)
+
         -- the sort is a list
-        pub var_no_sort : (which : ℕ) {u w : ℕ} → y ≡ Part u w → add_var which g.xs g.S ≡ refuse 21 0 g.S
-        var_no_sort which f = var_listed which g.xs g.S var_name_lem.is (nth_part g.holds 2 b (omega (arith, g.many)) f).is
+        pub var_no_sort : (which : ℕ) → ((ys : Sexps) → Holds text behind ys → (zs : Sexps) × (item ys 0 ≡ list zs)) → add_var which g.xs g.S ≡ refuse 21 0 g.S
+        var_no_sort which f =
+            let y = f (rest g.xs 2) (rest_holds g.holds 2 b) in var_listed which g.xs g.S var_name_lem.is (sym (item_rest g.xs 2 0) ∙ y.1)
 
-        module _ {from : ℕ} (f : y ≡ Atom from) where
-          pub var_sort_text : AtomText text (item g.xs 2) from
-          var_sort_text = nth_text g.holds 2 b f
+        module _ {ss : List ℕ} (f : (ys : Sexps) → Holds text behind ys → (p : ℕ) × (item ys 0 ≡ atom p ss)) where
+          var_sort_text : (p : ℕ) × (item g.xs 2 ≡ atom p ss)
+          var_sort_text = let y = f (rest g.xs 2) (rest_holds g.holds 2 b) in (y.0, sym (item_rest g.xs 2 0) ∙ y.1)
 
-          module _ {last : ℕ} (l : last ≡ from + length (letters (drop from text))) {r : Option ℕ}
-              (s : (T : Theory) → SortsHeld theory sorts n.sorts T.sorts → r ≡ (sort_named T (take (last - from) (drop from text)))) where
-            sort_told : r ≡ (sort_named g.S.theory (letters (drop from text)))
-            sort_told = s g.S.theory g.sorts_are ∙ ap (λ bs. (sort_named g.S.theory bs)) (atom_part text from last var_sort_text.inside l)
+          module _ {r : Option ℕ} (s : (T : Theory) → SortsHeld theory sorts n.sorts T.sorts → r ≡ (sort_named T ss)) where
+            sort_told : r ≡ (sort_named g.S.theory ss)
+            sort_told = s g.S.theory g.sorts_are
 
             pub var_sort_missing : (which : ℕ) → r ≡ nothing → add_var which g.xs g.S ≡ refuse 21 0 g.S
-            var_sort_missing which c =
-                var_unsorted which g.xs g.S var_name_lem.is var_sort_text.is
-                (found_missing (sort_named g.S.theory (letters (drop from text))) r sort_told c)
+            var_sort_missing which c = var_unsorted which g.xs g.S var_name_lem.is var_sort_text.1 (sym sort_told ∙ c)
 
             module _ {k : ℕ} (c : r ≡ some k) where
-              sort_is : sort_named g.S.theory (letters (drop from text)) ≡ some k
-              sort_is = found_at (sort_named g.S.theory (letters (drop from text))) r k sort_told c
+              sort_is : sort_named g.S.theory ss ≡ some k
+              sort_is = sym sort_told ∙ c
 
               pub var_sort_small : k < 2 ^ 32
-              var_sort_small = omega (arith, sort_small g.S.theory g.sorts_are (letters (drop from text)) r sort_told c)
+              var_sort_small = omega (arith, sort_small g.S.theory g.sorts_are ss r sort_told c)
 
               pub var_is_marked : (which : ℕ) {b : Bool} → b ≡ marked (letters (drop start text)) → b ≡ true → add_var which g.xs g.S ≡ refuse 21 0 g.S
-              var_is_marked which m t = var_marked_lem which g.xs g.S var_name_lem.is var_sort_text.is sort_is (sym m ∙ t)
+              var_is_marked which m t = var_marked_lem which g.xs g.S var_name_lem.is var_sort_text.1 sort_is (sym m ∙ t)
 
               module _ {mk : Bool} (m : mk ≡ marked (letters (drop start text))) (no : mk ≡ false)
                   {end : ℕ} (d : end ≡ start + length (letters (drop start text))) {u : Bool}
@@ -198,12 +207,12 @@ module _ {theory goals text sorts symbols vars : List ℕ} {n : Sizes} {cells : 
                 free_told = v g.S g.inputs g.symbols_are g.vars_are ∙ ap (free g.S) (atom_part text start end var_name_lem.inside d)
 
                 pub var_is_used : (which : ℕ) → u ≡ false → add_var which g.xs g.S ≡ refuse 21 0 g.S
-                var_is_used which t = var_used which g.xs g.S var_name_lem.is var_sort_text.is sort_is (sym m ∙ no) (sym free_told ∙ t)
+                var_is_used which t = var_used which g.xs g.S var_name_lem.is var_sort_text.1 sort_is (sym m ∙ no) (sym free_told ∙ t)
 
                 module _ (t : u ≡ true) where
                   pub var_no_room : (which : ℕ) → VARIABLES ≤ n.vars → add_var which g.xs g.S ≡ refuse 60 7 g.S
                   var_no_room which q =
-                      var_full which g.xs g.S var_name_lem.is var_sort_text.is sort_is (sym m ∙ no) (sym free_told ∙ t)
+                      var_full which g.xs g.S var_name_lem.is var_sort_text.1 sort_is (sym m ∙ no) (sym free_told ∙ t)
                       (omega (arith, g.vars_are.stand.many))
 
                   pub var_fits : n.vars < VARIABLES → VarAt vars n.vars × Fits4 k start end 0
@@ -223,7 +232,7 @@ module _ {theory goals text sorts symbols vars : List ℕ} {n : Sizes} {cells : 
                       record {
                         new = new_var k which start (letters (drop start text));
                         end = end;
-                        is = var_added which g.xs g.S var_name_lem.is var_sort_text.is sort_is (sym m ∙ no) (sym free_told ∙ t)
+                        is = var_added which g.xs g.S var_name_lem.is var_sort_text.1 sort_is (sym m ∙ no) (sym free_told ∙ t)
                             (omega (arith, g.vars_are.stand.many));
                         room = q;
                         of_text = refl;

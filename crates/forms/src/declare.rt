@@ -57,12 +57,12 @@ pub fn add_var(
     let Item::Atom(start) = items::nth(cells, 1) else {
         return Err(Question::Variable);
     };
-    let Item::Atom(from) = items::nth(cells, 2) else {
+    let bytes = given.text;
+    let at = items::place(cells, 2);
+    let Some(own) = items::head(bytes, &cells[at..]) else {
         return Err(Question::Variable);
     };
-    let bytes = given.text;
-    let last = lex::atom_end(bytes, from);
-    let Some(sort) = sort_named(given.theory, given.sorts, board.n.sorts, &bytes[from..last]) else {
+    let Some(sort) = sort_named(given.theory, given.sorts, board.n.sorts, own) else {
         return Err(Question::Variable);
     };
     if marked(bytes, start) {
