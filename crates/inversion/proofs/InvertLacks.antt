@@ -31,28 +31,16 @@ up_below a zero i l = absurd (omega arith)
 up_below a (suc n) zero l = omega arith
 up_below a (suc n) (suc i) l = omega (arith, up_below (suc a) n i (omega arith))
 
-module _ {symbols rules rulevars patterns : List ℕ} {n : Sizes} {I W : List ℕ} {m : Mark} {r s : ℕ} {sorts : List ℕ} {count : ℕ}
-    (g : Lacking symbols rules rulevars patterns n I W m r s sorts count) {need : ℕ} (v : need ≡ length (rule g.T r).vars) where
+module _ {symbols rules rulevars patterns : List ℕ} {n : Sizes} {I W : List ℕ} {m : Mark} {r need s : ℕ} {sorts : List ℕ} {count : ℕ}
+    (g : Lacking symbols rules rulevars patterns n I W m r need s sorts count) where
   abbrev R : Rule
   R = rule g.T r
 
-  -- what `make_vars` asks
-  abbrev pub lack_vars : RuleVarsGiven rulevars r need
-  lack_vars = record {
-    T = g.rule_vars_lem.T;
-    text = g.rule_vars_lem.text;
-    rules = g.rule_vars_lem.rules;
-    patterns = g.rule_vars_lem.patterns;
-    known = g.rule_vars_lem.known;
-    words = g.rule_vars_lem.words;
-    held = g.rule_vars_lem.held;
-    there = g.rule_vars_lem.there;
-    many = v ∙ g.rule_vars_lem.many;
-    small = g.rule_vars_lem.small;
-  }
+  pub lack_need : need ≡ length R.vars
+  lack_need = g.rule_vars_lem.many ∙ ap (λ (T : Theory). length (rule T r).vars) g.theory
 
   pub lack_short : need ≤ RULEVARS
-  lack_short = omega (arith, v, (rule_formed g.formed g.known).few)
+  lack_short = omega (arith, lack_need, (rule_formed g.formed g.known).few)
 
   abbrev K : Out Made (List Var)
   K = lacks (vars_with g.vs sorts count) (tree I W m s) R (made I W m)
@@ -62,11 +50,11 @@ module _ {symbols rules rulevars patterns : List ℕ} {n : Sizes} {I W : List �
   lack_full {d} f =
       on_stop _ (on_start g.good)
       (subst (λ (T : Theory). make_vars (rule T r).vars (vars_with g.vs sorts count) (made I W m) ≡ refuse 60 d (made I W m)) g.theory
-      (f lack_vars g.vs g.more (made I W m)))
+      (f g.rule_vars_lem g.vs g.more (made I W m)))
 
   module _ {sorts' list : List ℕ} {k : ℕ} (f : (h : RuleVarsGiven rulevars r need) (vs : List Var) → length vs ≤ count → VarsMade vs (rule h.T r).vars sorts sorts' count list k) where
     pub are : VarsMade g.vs R.vars sorts sorts' count list k
-    are = subst (λ (T : Theory). VarsMade g.vs (rule T r).vars sorts sorts' count list k) g.theory (f lack_vars g.vs g.more)
+    are = subst (λ (T : Theory). VarsMade g.vs (rule T r).vars sorts sorts' count list k) g.theory (f g.rule_vars_lem g.vs g.more)
 
     module _ (room : length list ≡ RULEVARS) where
       pub lack_room : need ≤ length list
@@ -76,7 +64,7 @@ module _ {symbols rules rulevars patterns : List ℕ} {n : Sizes} {I W : List �
       lack_part = sym (length-take-le need list lack_room)
 
       pub numbers : take need list ≡ up_from count (length R.vars)
-      numbers = ap (λ (j : ℕ). take j list) v ∙ are.numbers
+      numbers = ap (λ (j : ℕ). take j list) lack_need ∙ are.numbers
 
       -- what `meet` asks
       abbrev pub lack_meeting : Meeting symbols rules patterns n I W m r s k (take need list)
@@ -88,9 +76,9 @@ module _ {symbols rules rulevars patterns : List ℕ} {n : Sizes} {I W : List �
         there = g.there;
         below = below_up (length g.vs) k (omega (arith, g.more, are.many)) (tree I W m s) g.below;
         few = are.few;
-        many = sym lack_part ∙ v;
+        many = sym lack_part ∙ lack_need;
         names = λ i l. subst (λ (xs : List ℕ). get_or xs i 0 < k) (sym numbers)
-            (omega (arith, up_below count (length R.vars) i (omega (arith, l, lack_part, v)), are.many));
+            (omega (arith, up_below count (length R.vars) i (omega (arith, l, lack_part, lack_need)), are.many));
       }
 
       before : length (vars_with g.vs sorts count) ≡ count

@@ -106,13 +106,15 @@ module _ {theory goals text symbols ins vars defs rules rulevars patterns facts 
 
   -- Without a case -------------------------------------------------------------------------------------------------------------------------
 
-  abbrev pub turn_lacking : Lacking symbols rules rulevars patterns n I W m r s sorts count
-  turn_lacking =
+  abbrev pub turn_lacking : {need : ℕ} →
+      ((T : Theory) (words vs ps : List ℕ) (k w : ℕ) → RulesHeld words rules vs ps k w T.rules → r < k → need ≡ length (rule T r).vars) →
+      Lacking symbols rules rulevars patterns n I W m r need s sorts count
+  turn_lacking v =
       record {
         T = g.S.theory;
         vs = g.S.vars;
         formed = turn_formed;
-        rule_vars_lem = turn_rule_vars refl;
+        rule_vars_lem = turn_rule_vars (v g.S.theory theory rulevars patterns n.rules g.ruled.words g.ruled.held l);
         theory = refl;
         known = l;
         good = g.refers.reads.good;

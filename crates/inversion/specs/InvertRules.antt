@@ -210,11 +210,12 @@ JudgedBy I W J X old new K (Err q) = Stopped I W J X old K (number_of q) (detail
 
 -- A rule without a case, and one with it ---------------------------------------------------------------------------------------------------
 
-pub record Lacking (symbols rules rulevars patterns : List ℕ) (n : Sizes) (I W : List ℕ) (m : Mark) (r s : ℕ) (sorts : List ℕ) (count : ℕ) : Type 0 where
+-- need: how many variables the rule has
+pub record Lacking (symbols rules rulevars patterns : List ℕ) (n : Sizes) (I W : List ℕ) (m : Mark) (r need s : ℕ) (sorts : List ℕ) (count : ℕ) : Type 0 where
   pub T : Theory
   pub vs : List Var
   pub formed : FormedRules symbols rules patterns n.rules T
-  pub rule_vars_lem : RuleVarsGiven rulevars r (length (rule T r).vars)
+  pub rule_vars_lem : RuleVarsGiven rulevars r need
   pub theory : rule_vars_lem.T ≡ T
   pub known : r < n.rules
   pub good : Good I W m

@@ -63,9 +63,9 @@ JudgedAs s t K r = JudgedBy s.index.now s.words.now t.index.now t.words.now s.ma
 abbrev pub VerdictIn : Facts → ℕ → ℕ → List ℕ → Type 0
 VerdictIn f i t own = Verdict f.rows.now f.n i t own
 
-abbrev pub LackingIn : Inverting → Store → ℕ → Variables → Type 0
-LackingIn v s r x =
-    Lacking v.source.reader.symbols.now v.rules.rows.now v.rules.vars.now v.rules.patterns.now v.source.reader.n s.index.now s.words.now s.mark r v.hypothesis x.sorts x.count
+abbrev pub LackingIn : Inverting → Store → RuleVars → Variables → Type 0
+LackingIn v s u x =
+    Lacking v.source.reader.symbols.now v.rules.rows.now u.rules.vars.now v.rules.patterns.now v.source.reader.n s.index.now s.words.now s.mark u.rule u.count v.hypothesis x.sorts x.count
 
 abbrev pub LackedAs : Store → Store → List Var → Out Made (List Var) → Variables → Variables → Result (Unit {0}) Question → Type 0
 LackedAs s t vs K x y r = LackedBy s.index.now s.words.now t.index.now t.words.now s.mark t.mark vs K y.sorts x.count y.count r

@@ -64,10 +64,9 @@ impl Inverting<'_> {
         };
         let built = patterns.build(store, &bound, at)?;
         let mut theta = [0u32; VARIABLES];
-        let count = own.count;
         if !unify(
             store,
-            count,
+            own.count,
             self.hypothesis,
             built.term,
             &mut theta,

@@ -32,34 +32,29 @@ fn predicate_of(terms: &Terms<'_>, s: usize) -> usize
 }
 
 impl Inverting<'_> {
-    // Rule r without a case: it must not meet the hypothesis.
+    // A rule without a case: it must not meet the hypothesis.
     fn without_case(
         &self,
         store: &mut Store<'_>,
-        r: usize,
+        need: &RuleVars<'_>,
         names: &mut Variables,
         scratch: &mut Scratch<'_>,
     ) -> Result<(), Question>
-        requires lacking { LackingIn self.now store.old r names.old }
+        requires lacking { LackingIn self.now store.old need.now names.old }
         requires empty { EmptyScratch scratch.old }
         ensures same_tables { SameTables store.old store.new }
-        ensures lacked_as { (g : LackingIn self.now store.old r names.old) → let s = store.old in
+        ensures lacked_as { (g : LackingIn self.now store.old need.now names.old) → let s = store.old in
             LackedAs s store.new g.vs
-            (lacks (vars_with g.vs names.old.sorts names.old.count) (tree s.index.now s.words.now s.mark self.now.hypothesis) (rule g.T r) (made_of s))
+            (lacks (vars_with g.vs names.old.sorts names.old.count) (tree s.index.now s.words.now s.mark self.now.hypothesis) (rule g.T need.now.rule) (made_of s))
             names.old names.new result }
         ensures taken_unchanged { names.new.taken ≡ names.old.taken }
         ensures same_scratch { SameScratch scratch.old scratch.new }
         ensures scratch_kept { ScratchKept scratch.old scratch.new }
     {
         let mut list = [0u32; RULEVARS];
-        let need = RuleVars {
-            rules: self.rules,
-            rule: r,
-            count: self.rules.variables(r),
-        };
         need.make(names, &mut list)?;
         let own = Renaming {
-            rule: r,
+            rule: need.rule,
             vars: &list[..need.count],
             count: names.count,
         };
@@ -119,18 +114,18 @@ impl Inverting<'_> {
         ensures scratch_kept { ScratchKept scratch.old scratch.new }
         ensures ids_unchanged { ids.new ≡ ids.old }
     {
-        let Span { from, end } = self.rules.rule_name(r);
-        let reader = &self.source.reader;
-        let name = &reader.theory[from..end];
-        let Some(case) = find_case(reader.text, cases, name) else {
-            return self.without_case(store, r, names, scratch);
-        };
-        let mut list = [0u32; RULEVARS];
         let need = RuleVars {
             rules: self.rules,
             rule: r,
             count: self.rules.variables(r),
         };
+        let Span { from, end } = self.rules.rule_name(r);
+        let reader = &self.source.reader;
+        let name = &reader.theory[from..end];
+        let Some(case) = find_case(reader.text, cases, name) else {
+            return self.without_case(store, &need, names, scratch);
+        };
+        let mut list = [0u32; RULEVARS];
         let i = self.case_vars(case, &need, &mut names.taken, &mut list)?;
         let own = Renaming {
             rule: r,

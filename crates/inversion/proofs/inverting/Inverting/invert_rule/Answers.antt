@@ -21,12 +21,12 @@ pub find_case-requires : goal.find_case-requires
 find_case-requires c = turn_cases c.requires.turning c.requires.r_lt_rules.0
 
 pub without_case-requires-clause-lacking : goal.without_case-requires-clause-lacking
-without_case-requires-clause-lacking c = turn_lacking c.requires.turning c.requires.r_lt_rules.0
+without_case-requires-clause-lacking c = turn_lacking c.requires.turning c.requires.r_lt_rules.0 c.variables.ensures
 
 pub returns-in_default-clause-turned_as : goal.returns-in_default-clause-turned_as
 returns-in_default-clause-turned_as c = λ g.
     turn_lacked g c.requires.r_lt_rules.0 c.rule_name-from.result c.rule_name-from.ensures c.find_case.result c.find_case.ensures c.in_default.is
-    _ _ _ _ _ _ _ c.without_case.ensures.taken_unchanged (c.without_case.ensures.lacked_as (turn_lacking g c.requires.r_lt_rules.0))
+    _ _ _ _ _ _ _ c.without_case.ensures.taken_unchanged (c.without_case.ensures.lacked_as (turn_lacking g c.requires.r_lt_rules.0 c.variables.ensures))
 
 pub variables-requires : goal.variables-requires
 variables-requires c = turn_known c.requires.turning c.requires.r_lt_rules.0
