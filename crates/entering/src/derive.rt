@@ -49,7 +49,7 @@ impl Way {
     }
 }
 
-// What the form derives, by its items. `memo` and `ids` are scratch: zero before and after.
+// What the form derives, by its items. `memo` and `ids` are scratch: zero before and after. They are no struct: see `induction::induct`.
 fn find(
     source: &Source<'_>,
     rules: &Rules<'_>,
@@ -73,7 +73,8 @@ fn find(
     }
 }
 
-// A derived fact comes behind the others, which rests on such hypotheses and rules.
+// A derived fact comes behind the others, which rests on such hypotheses and rules. A function apart from `enter_derived`: that the footing's cells are
+// of 64 bits is known of a slice that is lent; in one function over `Derived` it was tried, and the proof of `words` does not close.
 fn enter(board: &mut Board<'_>, judgment: usize, hyps: &[u64], footing: &[u64]) -> Result<(), Row>
     requires putting { Putting (records_of board.old) board.old.n judgment }
     requires hyps_value { (64 * length hyps.now ≡ FACTS) × (length footing.now ≡ 4) }

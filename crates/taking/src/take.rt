@@ -59,7 +59,8 @@ fn goal_items(
     }
 }
 
-// A form of the goals, by its cells; the text is that of the goals.
+// A form of the goals, by its cells; the text is that of the goals. One function for this and `take_form` would be handed the reading of the items and
+// what that promises.
 pub fn take_goal(
     given: &Given<'_>,
     board: &mut Board<'_>,
@@ -96,7 +97,7 @@ fn own_index(text: &[u8], cells: &[u32], tag: Tag, n: Sizes) -> Result<(), Quest
 }
 
 // The form of the proof that has these items: what it counts. Where it is refused, the terms that it made are still there. `ids` and `memo` are scratch:
-// zero before and after.
+// zero before and after. They are no struct: see `induction::induct`.
 fn form_items(
     given: &Given<'_>,
     board: &mut Board<'_>,
@@ -129,7 +130,7 @@ fn form_items(
     }
 }
 
-// A form of the proof, by its cells: what it counts. `ids` and `memo` are scratch: zero before and after.
+// A form of the proof, by its cells: what it counts. `ids` and `memo` are scratch: zero before and after. It is apart from `take_goal`, as is said there.
 pub fn take_form(
     given: &Given<'_>,
     board: &mut Board<'_>,
