@@ -1,6 +1,6 @@
 -- The hypothesis that `invert` names, and those that its result rests on. Assumes nothing.
 use Rattle.std.specs.Prelude.{Some as some, None as nothing, Option}
-use mathlib.Core.Path.{◌≡◌, sym, ap, ◌∙◌, subst}
+use mathlib.Core.Path.{◌≡◌, refl, sym, ap, ◌∙◌, subst}
 use mathlib.Core.Bool.{Bool, true, false, not}
 use mathlib.Core.List.{List}
 use Prim.Native.Nat.{ℕ, suc, ◌-◌, ◌*◌, ◌<◌, ◌≤◌}
@@ -23,18 +23,20 @@ use Rattle.sexp.specs.Encode.{encodes}
 use Rattle.sexp.specs.Items.{Holds, place}
 use Rattle.sexp.specs.Never.{never}
 use Rattle.sexp.specs.NthItem.{place_high, rest_holds}
-use Rattle.sexp.specs.FoundLaws.{found_at, found_missing}
+use Rattle.questions.specs.declared.Question.{Question}
+use Rattle.questions.specs.declared.Question.TheVariants.{Earlier}
+use Rattle.questions.specs.Numbers.{number_of, detail_of}
 use Rattle.terms.specs.Sets.{holds}
 use Rattle.state.specs.declared.sizes.Sizes.{Sizes}
 use Rattle.state.specs.Held.{records}
 use Rattle.state.specs.Rows.{plain_row}
 use Rattle.state.specs.FactLaws.{FactRow, fact_row_lem}
-use Rattle.state.specs.Looking.{not_late, is_late}
 use Rattle.state.specs.Members.{rises_rising}
 use Rattle.reading.specs.Items.{FirstItem, index_in, index_found}
 use Rattle.reading.specs.Given.{FactsItem}
 use Rattle.reading.specs.Answers.{HypsRead}
 use Rattle.referring.specs.Recall.{fact_of}
+use Rattle.referring.specs.Sources.{Missing}
 use Rattle.referring.specs.Laws.Refers.{fact_found, fact_none, fact_asks}
 use Rattle.inversion.specs.Inversions.{NamingForm, hypothesis_of, HypothesisRead}
 
@@ -83,77 +85,81 @@ module _ {text facts : List ℕ} {n : Sizes} {cells : List ℕ} (g : NamingForm 
     pub naming_index : FirstItem text (take (length cells - at) (drop at cells))
     naming_index = record { x = item g.xs 2; ys = rest g.xs 3; holds = naming_item 2 (omega arith) a }
 
-    module _ {r : Option ℕ} (b : (x : Sexp) (ys : Sexps) → Holds text (take (length cells - at) (drop at cells)) (cons x ys) → r ≡ index_in x) where
-      told : r ≡ index_in (item g.xs 2)
-      told = b (item g.xs 2) (rest g.xs 3) (naming_item 2 (omega arith) a)
+    abbrev Named : (Option ℕ → Type 0) → Type 0
+    Named P = (x : Sexp) (ys : Sexps) → Holds text (take (length cells - at) (drop at cells)) (cons x ys) → P (index_in x)
 
-      pub naming_none : r ≡ nothing → (M : Made) → whole M ≡ refuse 34 0 M
-      naming_none e M = started M ∙ then_refuse _ 34 0 M _ (ap (λ (o : Option ℕ). found 34 o M) (found_missing (index_in (item g.xs 2)) r told e))
+    at_third : (P : Option ℕ → Type 0) → Named P → P (index_in (item g.xs 2))
+    at_third P b = b (item g.xs 2) (rest g.xs 3) (naming_item 2 (omega arith) a)
 
-      module _ {i : ℕ} (e : r ≡ some i) {t : Bool} (is : t ≡ ltb i n.facts) where
-        indexed : (M : Made) → whole M ≡ then (fact_at S i M) (λ k B. after_fact i k B)
-        indexed M = started M ∙ then_ok _ i M _ (ap (λ (o : Option ℕ). found 34 o M) (found_at (index_in (item g.xs 2)) r i told e))
+    indexed : (i : ℕ) → index_in (item g.xs 2) ≡ some i → (M : Made) → whole M ≡ then (fact_at S i M) (λ k B. after_fact i k B)
+    indexed i e M = started M ∙ then_ok _ i M _ (ap (λ (o : Option ℕ). found 34 o M) e)
 
-        pub naming_late : not t ≡ true → (M : Made) → whole M ≡ refuse 34 0 M
-        naming_late y M = indexed M ∙ then_refuse _ 34 0 M _ (fact_none g.recorded M (is_late i n.facts t is y))
+    -- it names no earlier fact
+    pub naming_missing : {q : Question} → (q ≡ Earlier) × Named (Missing n) → (M : Made) → whole M ≡ refuse (number_of q) (detail_of q) M
+    naming_missing {q} h M =
+        subst (λ (z : Question). whole M ≡ refuse (number_of z) (detail_of z) M) (sym h.0) (go (index_in (item g.xs 2)) refl (at_third (Missing n) h.1))
+      where
+        go : (o : Option ℕ) → index_in (item g.xs 2) ≡ o → Missing n o → whole M ≡ refuse 34 0 M
+        go (some i) e l = indexed i e M ∙ then_refuse _ 34 0 M _ (fact_none g.recorded M l)
+        go nothing e l = started M ∙ then_refuse _ 34 0 M _ (ap (λ (o : Option ℕ). found 34 o M) e)
 
-        module _ (y : not t ≡ false) where
-          there : i < n.facts
-          there = not_late i n.facts t is y
+    module _ {i : ℕ} (h : Named (λ o. o ≡ some i) × (i < n.facts)) where
+      there : i < n.facts
+      there = h.1
 
-          -- what the readers of a fact ask
-          pub naming_fact : (length facts ≡ 6 * FACTS) × (i < FACTS)
-          naming_fact = fact_asks g.recorded there
+      -- what the readers of a fact ask
+      pub naming_fact : (length facts ≡ 6 * FACTS) × (i < FACTS)
+      naming_fact = fact_asks g.recorded there
 
-          row : FactRow (records facts g.footings g.lists) n g.made_trees S i (fact_of S i)
-          row = fact_row_lem g.recorded i there
+      row : FactRow (records facts g.footings g.lists) n g.made_trees S i (fact_of S i)
+      row = fact_row_lem g.recorded i there
 
-          known : (M : Made) → whole M ≡ after_fact i (fact_of S i) M
-          known M = indexed M ∙ then_ok _ (fact_of S i) M _ (fact_found g.recorded M there)
+      known : (M : Made) → whole M ≡ after_fact i (fact_of S i) M
+      known M = indexed i (at_third (λ o. o ≡ some i) h.0) M ∙ then_ok _ (fact_of S i) M _ (fact_found g.recorded M there)
 
-          module _ {p : Bool} (pl : p ≡ plain_row facts i) where
-            pub naming_other : not p ≡ true → (M : Made) → whole M ≡ refuse 40 0 M
-            naming_other z M = known M ∙ then_refuse _ 40 0 M _ (ap (λ (c : Bool). ask 40 c M) (sym row.plain ∙ sym pl ∙ not-true p z))
+      module _ {p : Bool} (pl : p ≡ plain_row facts i) where
+        pub naming_other : not p ≡ true → (M : Made) → whole M ≡ refuse 40 0 M
+        naming_other z M = known M ∙ then_refuse _ 40 0 M _ (ap (λ (c : Bool). ask 40 c M) (sym row.plain ∙ sym pl ∙ not-true p z))
 
-            module _ (z : not p ≡ false) where
-              plain : (M : Made) → whole M ≡ then (hyp_list (λ f. f.assumed) S (item g.xs 3) M) (λ hs B. ok (i, (fact_of S i, hs)) B)
-              plain M = known M ∙ then_ok _ tt M _ (ap (λ (c : Bool). ask 40 c M) (sym row.plain ∙ sym pl ∙ not-false p z))
+        module _ (z : not p ≡ false) where
+          plain : (M : Made) → whole M ≡ then (hyp_list (λ f. f.assumed) S (item g.xs 3) M) (λ hs B. ok (i, (fact_of S i, hs)) B)
+          plain M = known M ∙ then_ok _ tt M _ (ap (λ (c : Bool). ask 40 c M) (sym row.plain ∙ sym pl ∙ not-false p z))
 
-              module _ {third : ℕ} (c : (ys : Sexps) → cells ≡ encodes ys → third ≡ place ys 3) where
-                -- what `any_hyps` asks
-                abbrev pub naming_hyps : FactsItem text facts n (take (length cells - third) (drop third cells))
-                naming_hyps = record {
-                  S = S;
-                  made_trees = g.made_trees;
-                  footings = g.footings;
-                  lists = g.lists;
-                  x = item g.xs 3;
-                  ys = rest g.xs 4;
-                  recorded = g.recorded;
-                  holds = naming_item 3 (omega arith) c;
-                }
+          module _ {third : ℕ} (c : (ys : Sexps) → cells ≡ encodes ys → third ≡ place ys 3) where
+            -- what `any_hyps` asks
+            abbrev pub naming_hyps : FactsItem text facts n (take (length cells - third) (drop third cells))
+            naming_hyps = record {
+              S = S;
+              made_trees = g.made_trees;
+              footings = g.footings;
+              lists = g.lists;
+              x = item g.xs 3;
+              ys = rest g.xs 4;
+              recorded = g.recorded;
+              holds = naming_item 3 (omega arith) c;
+            }
 
-                pub naming_stop : {q d : ℕ} →
-                    ((w : FactsItem text facts n (take (length cells - third) (drop third cells))) → (M : Made) → hyp_list (λ f. f.assumed) w.S w.x M ≡ refuse q d M) →
-                    (M : Made) → whole M ≡ refuse q d M
-                naming_stop {q} {d} f M = plain M ∙ then_refuse _ q d M _ (f naming_hyps M)
+            pub naming_stop : {q d : ℕ} →
+                ((w : FactsItem text facts n (take (length cells - third) (drop third cells))) → (M : Made) → hyp_list (λ f. f.assumed) w.S w.x M ≡ refuse q d M) →
+                (M : Made) → whole M ≡ refuse q d M
+            naming_stop {q} {d} f M = plain M ∙ then_refuse _ q d M _ (f naming_hyps M)
 
-                module _ {hyps : List ℕ} (f : (w : FactsItem text facts n (take (length cells - third) (drop third cells))) → HypsRead (λ f. f.assumed) w.S w.x hyps) where
-                  abbrev read : HypsRead (λ f. f.assumed) S (item g.xs 3) hyps
-                  read = f naming_hyps
+            module _ {hyps : List ℕ} (f : (w : FactsItem text facts n (take (length cells - third) (drop third cells))) → HypsRead (λ f. f.assumed) w.S w.x hyps) where
+              abbrev read : HypsRead (λ f. f.assumed) S (item g.xs 3) hyps
+              read = f naming_hyps
 
-                  rise : (M : Made) → read.hyps ≡ rising n.facts (holds hyps)
-                  rise M =
-                      listed_rises (λ f. f.assumed) S (item g.xs 3) read.hyps M (read.are M)
-                      ∙ (λ i. rising (sym g.recorded.many i) (sym read.set_is i))
+              rise : (M : Made) → read.hyps ≡ rising n.facts (holds hyps)
+              rise M =
+                  listed_rises (λ f. f.assumed) S (item g.xs 3) read.hyps M (read.are M)
+                  ∙ (λ i. rising (sym g.recorded.many i) (sym read.set_is i))
 
-                  pub naming_read : HypothesisRead S n hyps (hypothesis_of S g.xs) i
-                  naming_read =
-                      record {
-                        read = λ M. plain M ∙ then_ok _ read.hyps M _ (read.are M) ∙ ap (λ (hs : List ℕ). ok (i, (fact_of S i, hs)) M) (rise M);
-                        there = there;
-                        early = λ v q.
-                            has_all read.hyps v
-                            (subst (All (λ h. h < n.facts)) (sym (rise g.made_trees)) (rising_all_of n.facts (holds hyps) (λ w l e. l)))
-                            (ap (λ (a : Set). a v) (sym read.set_is) ∙ q);
-                      }
+              pub naming_read : HypothesisRead S n hyps (hypothesis_of S g.xs) i
+              naming_read =
+                  record {
+                    read = λ M. plain M ∙ then_ok _ read.hyps M _ (read.are M) ∙ ap (λ (hs : List ℕ). ok (i, (fact_of S i, hs)) M) (rise M);
+                    there = there;
+                    early = λ v q.
+                        has_all read.hyps v
+                        (subst (All (λ h. h < n.facts)) (sym (rise g.made_trees)) (rising_all_of n.facts (holds hyps) (λ w l e. l)))
+                        (ap (λ (a : Set). a v) (sym read.set_is) ∙ q);
+                  }

@@ -8,7 +8,7 @@ ghost use Rattle.terms.specs.Table.{tree};
 ghost use Rattle.terms.specs.Lent.{SameTables, made_of};
 ghost use Rattle.terms.specs.Sets.{holds};
 ghost use Rattle.state.specs.Held.{VarsHeld};
-ghost use Rattle.referring.specs.Sources.{RecallsIn};
+ghost use Rattle.referring.specs.Sources.{RecallsIn, facts_of};
 ghost use Rattle.casework.specs.Context.{IDS, There};
 ghost use Rattle.inversion.specs.InvertRules.{vars_with};
 ghost use Rattle.inversion.specs.Inversions.{hypothesis_of, HypothesisAs, invert_on};
@@ -19,13 +19,12 @@ use casework::cases::read_cases;
 use cells::Span;
 use kernel::rule_readers::Rules;
 use questions::Question;
-use reading::names::index as index_in;
-use referring::source::{Facts, Source};
+use referring::source::Source;
 use referring::support::{Derived, Support};
 use rules::{FACTS, TERMWORDS, VARIABLES, VARIABLEWORDS};
 use sexp::items;
 use sexp::items::Item;
-use state::facts::{is_fact, is_plain, judgment as judgment_of};
+use state::facts::{is_plain, judgment as judgment_of};
 use state::vars::put_var;
 use terms::sets::{insert, write_out};
 use terms::store::{Store, Terms};
@@ -36,29 +35,6 @@ use terms::variables::visit;
 pub struct Inverted {
     pub derived: Derived,
     pub vars: usize,
-}
-
-// The variables of the hypothesis s, of the judgment j and of the facts of the context, which a case's variables must be new to.
-fn taken_vars(
-    facts: &Facts<'_>,
-    terms: &Terms<'_>,
-    s: usize,
-    j: usize,
-    context: &[u32],
-    set: &mut [u64],
-)
-    requires { RecallsIn facts.now terms.now × (s < terms.now.mark.terms) × (j < terms.now.mark.terms) × There facts.now.n.facts context.now
-        × (set.old ≡ replicate VARIABLEWORDS 0) }
-    ensures { (g : RecallsIn facts.now terms.now) (Y : Inversion) → let t = terms.now in
-        Y.hypothesis ≡ tree t.index.now t.words.now t.mark s → Y.judgment ≡ tree t.index.now t.words.now t.mark j → Y.context ≡ context.now →
-        holds set.new ≡ taken_vars g.S Y }
-{
-    let mut seen = [0u64; TERMWORDS];
-    visit(terms, s, &mut seen, set);
-    visit(terms, j, &mut seen, set);
-    for h in context {
-        facts.mention(terms, *h as usize, &mut seen, set);
-    }
 }
 
 // The rows of the variables from `count` up to `end`, which were made and have no name; their sorts are in the cells.
@@ -75,6 +51,26 @@ pub fn put_made(vars: &mut [u32], sorts: &[u32], count: usize, end: usize)
 }
 
 impl Inverting<'_> {
+    // The variables of the hypothesis, of the judgment and of the facts of the context, which a case's variables must be new to, as a set.
+    fn taken_vars(&self, terms: &Terms<'_>) -> [u64; VARIABLEWORDS]
+        requires { RecallsIn (facts_of self.now.source) terms.now × (self.now.hypothesis < terms.now.mark.terms) × (self.now.judgment < terms.now.mark.terms)
+            × There self.now.source.reader.n.facts self.now.context.now }
+        ensures taken { (g : RecallsIn (facts_of self.now.source) terms.now) (Y : Inversion) → let t = terms.now in
+            Y.hypothesis ≡ tree t.index.now t.words.now t.mark self.now.hypothesis → Y.judgment ≡ tree t.index.now t.words.now t.mark self.now.judgment →
+            Y.context ≡ self.now.context.now → holds result ≡ taken_vars g.S Y }
+        ensures long { length result ≡ VARIABLEWORDS }
+    {
+        let facts = self.source.facts();
+        let mut set = [0u64; VARIABLEWORDS];
+        let mut seen = [0u64; TERMWORDS];
+        visit(terms, self.hypothesis, &mut seen, &mut set);
+        visit(terms, self.judgment, &mut seen, &mut set);
+        for h in self.context {
+            facts.mention(terms, *h as usize, &mut seen, &mut set);
+        }
+        set
+    }
+
     // The rest of the form behind its judgment: how many variables there are then. The sorts of made ones come into the cells, each at its number, and
     // zero into the others. `memo` and `ids` are scratch: zero before and after.
     fn invert_on(
@@ -101,18 +97,10 @@ impl Inverting<'_> {
         let reader = &self.source.reader;
         read_cases(reader, inner)?;
         let mut names = Variables {
-            taken: [0; VARIABLEWORDS],
+            taken: self.taken_vars(&store.terms()),
             sorts: [0; VARIABLES],
             count: reader.n.vars,
         };
-        taken_vars(
-            &self.source.facts(),
-            &store.terms(),
-            self.hypothesis,
-            self.judgment,
-            self.context,
-            &mut names.taken,
-        );
         self.all_rules(store, inner, &mut names, memo, ids)?;
         sorts.copy_from_slice(&names.sorts);
         Ok(names.count)
@@ -125,13 +113,7 @@ fn hypothesis(source: &Source<'_>, cells: &[u32], hyps: &mut [u64]) -> Result<us
     ensures { (g : NamesHypothesis source.now cells.now) → HypothesisAs g.S source.now.reader.n hyps.new (hypothesis_of g.S g.xs) result }
 {
     let at = items::place(cells, 2);
-    let Some(i) = index_in(source.reader.text, &cells[at..]) else {
-        return Err(Question::Earlier);
-    };
-    let n = source.reader.n;
-    if !is_fact(n, i) {
-        return Err(Question::Earlier);
-    }
+    let i = source.earlier(&cells[at..])?;
     if !is_plain(source.rows, i) {
         return Err(Question::Hypothesis);
     }

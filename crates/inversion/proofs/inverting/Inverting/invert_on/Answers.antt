@@ -29,23 +29,23 @@ returns-in_err-read_cases-clause-inverted_on_as c = λ g. let p = err_from_is_er
 
 pub taken_vars-requires : goal.taken_vars-requires
 taken_vars-requires c = let g = c.requires.inverts_on.0 in
-    rw (c.facts.ensures, c.terms.ensures) (refers_recalls g.form.refers, g.hypothesis, g.judgment, g.known, refl)
+    rw c.terms.ensures (refers_recalls g.form.refers, g.hypothesis, g.judgment, g.known)
 
 pub all_rules-requires-clause-turning : goal.all_rules-requires-clause-turning
 all_rules-requires-clause-turning c =
-    on_turning c.requires.inverts_on.0 c.nth.ensures c.in-List.is c.in_ok-read_cases.ensures c.taken_vars.auto.set
-    (rw (c.facts.ensures, c.terms.ensures) at c.taken_vars.ensures)
+    on_turning c.requires.inverts_on.0 c.nth.ensures c.in-List.is c.in_ok-read_cases.ensures c.taken_vars.ensures.long
+    (rw c.terms.ensures at c.taken_vars.ensures.taken)
 
 pub returns-in_err-all_rules-clause-inverted_on_as : goal.returns-in_err-all_rules-clause-inverted_on_as
 returns-in_err-all_rules-clause-inverted_on_as c = λ g. let p = err_from_is_err_and c.from_residual-in_err-all_rules.result c.from_residual-in_err-all_rules.ensures.1 in
     rw (p.1, p.2) (
       on_stopped g c.nth.ensures c.in-List.is c.in_ok-read_cases.ensures (c.in_err-all_rules.ensures.turned_as
-          (on_turning g c.nth.ensures c.in-List.is c.in_ok-read_cases.ensures c.taken_vars.auto.set
-          (rw (c.facts.ensures, c.terms.ensures) at c.taken_vars.ensures))),
+          (on_turning g c.nth.ensures c.in-List.is c.in_ok-read_cases.ensures c.taken_vars.ensures.long
+          (rw c.terms.ensures at c.taken_vars.ensures.taken))),
       refl,
     )
 
 pub returns-clause-inverted_on_as : goal.returns-clause-inverted_on_as
 returns-clause-inverted_on_as c = λ g. on_read g c.nth.ensures c.in-List.is c.in_ok-read_cases.ensures c.copy_from_slice.ensures.after (c.in_ok-all_rules.ensures.turned_as
-    (on_turning g c.nth.ensures c.in-List.is c.in_ok-read_cases.ensures c.taken_vars.auto.set
-    (rw (c.facts.ensures, c.terms.ensures) at c.taken_vars.ensures)))
+    (on_turning g c.nth.ensures c.in-List.is c.in_ok-read_cases.ensures c.taken_vars.ensures.long
+    (rw c.terms.ensures at c.taken_vars.ensures.taken)))

@@ -1,0 +1,23 @@
+use mathlib.Core.Path.{refl, ap, ◌∙◌}
+use Prim.Native.Nat.{ℕ}
+use native.Mathlib.Omega.{arith}
+use lib.ListN.{length, length-replicate}
+use Rattle.rules.specs.Limits.{VARIABLEWORDS}
+use Rattle.terms.specs.Laws.Seen.{seen_none}
+use Rattle.inversion.proofs.InvertTaken.{taking_begins, taking_on, taking_ends}
+use Rattle.inversion.proofs.inverting.Inverting.taken_vars.Goals as goal
+
+pub visit-requires-clause-seen : goal.visit-requires-clause-seen
+visit-requires-clause-seen c = seen_none _ _ _ _ _ refl
+
+pub loop-h-init : goal.loop-h-init
+loop-h-init c = taking_begins refl c.visit.ensures c.visit-2.ensures (c.visit-2.auto.seen ∙ c.visit.auto.seen) (c.visit-2.auto.set ∙ c.visit.auto.set)
+
+pub loop-h-preserved : goal.loop-h-preserved
+loop-h-preserved c = taking_on c.loop-h.invariant c.requires.0 c.requires.3 c.loop-h-test.true c.mention.auto.seen c.mention.auto.set (rw c.facts-facts.ensures at c.mention.ensures)
+
+pub returns-clause-taken : goal.returns-clause-taken
+returns-clause-taken c = taking_ends c.loop-h.invariant (omega (arith, c.loop-h-test.false))
+
+pub returns-clause-long : goal.returns-clause-long
+returns-clause-long c = c.loop-h.invariant.long_set
