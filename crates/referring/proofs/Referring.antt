@@ -8,7 +8,8 @@ use native.Mathlib.Omega.{arith}
 use lib.ListN.{length, get_or, take, drop, replicate, length-replicate}
 use Rattle.rules.specs.Limits.{TERMS}
 use Rattle.rules.specs.Out.{Out, ok, refuse, then, ask, found}
-use Rattle.rules.specs.Sexp.{Sexp, Sexps, atom, nil, cons, item, rest}
+use Rattle.rules.specs.Sexp.{Sexp, Sexps, atom, cons, item, rest}
+use Rattle.rules.specs.Laws.Sexp.{rest_none}
 use Rattle.rules.specs.Tree.{Tree, var, sub}
 use Rattle.rules.specs.Store.{Made, substitute}
 use Rattle.rules.specs.Unify.{Binding, along}
@@ -133,11 +134,6 @@ asked S xs f M = then (ask 35 (is_empty f.hyps) M) (λ _ U. then (bindings S (re
 pub record Opens (n : Sizes) (I W : List ℕ) (m : Mark) (S : State) (xs : Sexps) (i : ℕ) : Type 0 where
   pub there : i < n.facts
   pub on : On I W m (instance S xs (made I W m)) I W m (then (bindings S (rest xs 1) [] (made I W m)) (valued (fact_of S i)))
-
-rest_none : (xs : Sexps) → rest xs 0 ≡ xs
-unfolding rest
-rest_none nil = refl
-rest_none (cons x xs) = refl
 
 module _ {K : Names} {facts : List ℕ} {n : Sizes} {I W : List ℕ} {m : Mark} {cells : List ℕ} (g : RefersItems K facts n I W m cells) where
   -- no number
