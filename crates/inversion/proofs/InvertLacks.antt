@@ -1,11 +1,10 @@
 -- A rule without a case: variables are made for it, and its conclusion over them must not unify with the hypothesis. Assumes nothing.
 use mathlib.Core.Path.{◌≡◌, sym, ap, ◌∙◌, subst}
-use mathlib.Core.Bool.{Bool, true, false}
 use Rattle.std.specs.Prelude.{Option, Some as some, None as nothing, Ok}
 use mathlib.Core.List.{List}
 use Prim.Native.Nat.{ℕ, zero, suc, ◌+◌, ◌<◌, ◌≤◌}
 use native.Mathlib.Omega.{arith}
-use lib.ListN.{length, get_or, take, replicate}
+use lib.ListN.{length, get_or, take}
 use lib.Seq.{length-take-le}
 use Rattle.rules.specs.Limits.{RULEVARS}
 use Rattle.rules.specs.Out.{Out, refuse, then, pure, stop}
@@ -18,7 +17,6 @@ use Rattle.rules.proofs.Laws.Below.{below_up}
 use Rattle.terms.specs.declared.store.Mark.{Mark}
 use Rattle.terms.specs.Table.{made, tree}
 use Rattle.terms.specs.On.{Stopped, On, on_start, on_is, on_ok, on_no, on_pure, on_stop, on_done, on_refused}
-use Rattle.terms.specs.Laws.Bound.{cells_zeros}
 use Rattle.kernel.specs.Entries.{rule_formed}
 use Rattle.state.specs.declared.sizes.Sizes.{Sizes}
 use Rattle.inversion.specs.declared.meeting.Met.{Met as Found}

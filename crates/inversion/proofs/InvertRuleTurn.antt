@@ -24,7 +24,6 @@ use Rattle.terms.specs.declared.store.Mark.{Mark}
 use Rattle.terms.specs.Table.{made, tree}
 use Rattle.terms.specs.Sets.{holds}
 use Rattle.terms.specs.On.{Stopped, On, on_start, on_is, on_ok, on_no, on_done, pure_stopped}
-use Rattle.terms.specs.Laws.Bound.{cells_zeros}
 use Rattle.state.specs.declared.sizes.Sizes.{Sizes}
 use Rattle.state.specs.Held.{names, rule_lists}
 use Rattle.questions.specs.declared.Question.{Question}

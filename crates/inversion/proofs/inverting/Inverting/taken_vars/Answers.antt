@@ -1,8 +1,5 @@
-use mathlib.Core.Path.{refl, ap, ◌∙◌}
-use Prim.Native.Nat.{ℕ}
+use mathlib.Core.Path.{refl, ◌∙◌}
 use native.Mathlib.Omega.{arith}
-use lib.ListN.{length, length-replicate}
-use Rattle.rules.specs.Limits.{VARIABLEWORDS}
 use Rattle.terms.specs.Laws.Seen.{seen_none}
 use Rattle.inversion.proofs.InvertTaken.{taking_begins, taking_on, taking_ends}
 use Rattle.inversion.proofs.inverting.Inverting.taken_vars.Goals as goal
