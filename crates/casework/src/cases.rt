@@ -151,7 +151,8 @@ fn read_many(reader: &Reader<'_>, cells: &[u32]) -> Result<(), Question>
     read_with(reader, cells, &mut names)
 }
 
-// All cases are read: what is asked of each, and that no two have one name. A few names are compared by pairs: two cells are no room for a tree.
+// All cases are read: what is asked of each, and that no two have one name. Two cells are no room for a tree, so that few names are compared by pairs. It is
+// no Option: a tree without room is asked about all the same (`is_taken`), and no tree would be one more case of it.
 pub fn read_cases(reader: &Reader<'_>, cells: &[u32]) -> Result<(), Question>
     requires { ReadsCases reader.now cells.now }
     ensures { (g : ReadsCases reader.now cells.now) → CasesAs g.S g.xs result }

@@ -4,7 +4,7 @@ use Rattle.std.proofs.Common.{sym, ◌∙◌, subst, arith, eq-eqb, ne_eqb}
 use Rattle.std.proofs.Math.Path.{ap}
 use Rattle.rules.specs.Out.{ok, refuse, then, ask, found}
 use Rattle.rules.specs.Lex.{letters}
-use Rattle.rules.specs.Sexp.{Sexp, Sexps, Name, atom, list, nil, cons, count, item, rest, name, items}
+use Rattle.rules.specs.Sexp.{Sexp, Sexps, Name, atom, list, cons, count, item, rest, name, items}
 use Rattle.rules.specs.Store.{Made}
 use Rattle.rules.specs.State.{State}
 use Rattle.rules.specs.Read.{index, vars_list}
