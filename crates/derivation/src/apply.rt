@@ -31,7 +31,7 @@ use terms::store::Store;
 use terms::substitute::substitute;
 use terms::variables::visit;
 
-// A fact that is used as a rule, under bindings.
+// A fact that is used as a rule, under bindings: a cell for each variable, 0 for none and a number with 1 added, what `substitute` reads.
 #[derive(Clone, Copy)]
 struct Rule<'a> {
     fact: usize,

@@ -33,7 +33,7 @@ fn keep_case(store: &mut Store<'_>, c: usize, own: &[u32]) -> Result<usize, Row>
 }
 
 impl Motive<'_> {
-    // The map that puts term t for the variable.
+    // The map that puts term t for the variable: 0 for none and a number with 1 added, what `substitute` reads.
     fn putting(&self, t: usize) -> [u32; VARIABLES]
         requires { (self.now.x < VARIABLES) × (t < TERMS) }
         ensures { result ≡ set (replicate VARIABLES 0) self.now.x (t + 1) }

@@ -20,7 +20,7 @@ use reading::reader::Reader;
 use referring::scope::visit_all;
 use referring::source::Source;
 use referring::support::{Derived, Support};
-use rules::{ARGUMENTS, FACTS, FACTWORDS, RULEWORDS, TERMWORDS, VARIABLEWORDS};
+use rules::{ARGUMENTS, FACTS, FACTWORDS, TERMWORDS, VARIABLEWORDS};
 use sexp::items;
 use sexp::items::Item;
 use state::facts::judgment as judgment_of;
@@ -165,7 +165,7 @@ fn induct_on(
         instances: 0,
         support: Support {
             hyps,
-            footing: [0; RULEWORDS],
+            ..Support::NONE
         },
     })
 }
