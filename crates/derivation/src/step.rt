@@ -26,8 +26,8 @@ use referring::scope::{visit_all, visit_cells};
 use referring::source::Source;
 use referring::support::{Derived, Support};
 use rules::{TERMWORDS, VARIABLEWORDS};
+use sexp::items;
 use sexp::items::Item;
-use sexp::{items, lex};
 use terms::patterns::Patterns;
 use terms::sets::insert;
 use terms::store::{Store, Terms};
@@ -173,12 +173,11 @@ pub fn step(
     ensures memo_unchanged { memo.new ≡ memo.old }
     ensures ids_unchanged { ids.new ≡ ids.old }
 {
-    let Item::Atom(start) = items::nth(cells, 2) else {
+    let reader = &source.reader;
+    let at = items::place(cells, 2);
+    let Some(name) = items::head(reader.text, &cells[at..]) else {
         return Err(Question::Defined);
     };
-    let reader = &source.reader;
-    let end = lex::atom_end(reader.text, start);
-    let name = &reader.text[start..end];
     let Some(number) = rules.rule_named(reader.theory, reader.n.rules, name) else {
         return Err(Question::Defined);
     };
