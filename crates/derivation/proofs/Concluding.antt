@@ -8,7 +8,7 @@ use native.Mathlib.Numerals.{add-one}
 use lib.Dec.{eqb}
 use lib.ListN.{length, get_or, replicate}
 use Rattle.rules.specs.Limits.{VARIABLES, VARIABLEWORDS, TERMWORDS}
-use Rattle.rules.specs.Out.{Out, ok, then}
+use Rattle.rules.specs.Out.{Out, ok, refuse, then}
 use Rattle.rules.specs.Find.{Set, has, union, minus, rising, least}
 use Rattle.rules.specs.Tree.{Tree, var, none, variables, variables_of}
 use Rattle.rules.specs.Store.{Made}
@@ -138,27 +138,18 @@ module _ {K : Names} {facts footings lists : List ℕ} {n : Sizes} {I W : List �
               on_is (on_ok _ (on_start g.refers.reads.good) to_done.went)
               (λ k. closed g.S (sym used_is k) (sym (grown_tree to_done.went.grown j l) k) (sym hyps_is k) (sym to_done.uses k) (made J X new))
 
-          -- w: what `outside` answers
-          module _ {w : Option ℕ} (o : counted_from_1 w ≡ least (length g.S.vars) (minus (holds used')
-              (union (variables (tree J X new j)) (hyp_vars g.S.facts (rising (length g.S.facts) (holds hyps')))))) where
-            pub to_fits : {v : ℕ} → w ≡ some v → v + 1 ≤ VARIABLES
-            to_fits {v} z =
-                let y : v + 1 ≡ counted_from_1 w = add-one v ∙ ap counted_from_1 (sym z) in
-                let l = least_most (length g.S.vars) (minus (holds used') (union (variables (tree J X new j)) (hyp_vars g.S.facts (rising (length g.S.facts) (holds hyps'))))) in
-                omega (arith, y, o, l, to_recalls.many, to_recalls.recorded.rows.row7)
+          -- question 39, as it is asked
+          abbrev asked : Out Made (Unit {0})
+          asked = scoped g.S (holds used') (tree J X new j) (rising (length g.S.facts) (holds hyps')) (made J X new)
 
-            pub to_outside : {v : ℕ} → w ≡ some v → Stopped I W J X m to_all 39 (v + 1) new
-            to_outside {v} z =
-                let y : v + 1 ≡ counted_from_1 w = add-one v ∙ ap counted_from_1 (sym z) in
-                on_stop _ on_closed (scoped_not g.S (holds used') (tree J X new j) (rising (length g.S.facts) (holds hyps')) (made J X new) (y ∙ o) (λ e. omega arith))
+          pub to_outside : {q e : ℕ} → asked ≡ refuse q e (made J X new) → Stopped I W J X m to_all q e new
+          to_outside z = on_stop _ on_closed z
 
-            pub to_fact : w ≡ nothing → DerivedRead Fact I W J X m g.S to_all alone hyps' footing j 0 new
-            to_fact z =
-                record {
-                  went = on_done
-                      (on_pure _ on_closed
-                      (scoped_yes g.S (holds used') (tree J X new j) (rising (length g.S.facts) (holds hyps')) (made J X new) o (ap counted_from_1 z)));
-                  there = to_there;
-                  earlier = λ h e. let y = to_under h e in omega (arith, to_refers.recorded.many);
-                  known = to_done.known;
-                }
+          pub to_fact : asked ≡ ok tt (made J X new) → DerivedRead Fact I W J X m g.S to_all alone hyps' footing j 0 new
+          to_fact z =
+              record {
+                went = on_done (on_pure _ on_closed z);
+                there = to_there;
+                earlier = λ h e. let y = to_under h e in omega (arith, to_refers.recorded.many);
+                known = to_done.known;
+              }

@@ -132,19 +132,12 @@ module _ {K : Names} {rules rulevars patterns facts lists : List ℕ} {n : Sizes
       on_second : On I W m whole J X new (then (scoped g.S (holds used) (tree J X new j) hypotheses (made J X new)) (λ _ s. ok (tree J X new j) s))
       on_second = on_ok second on_first used_read.went
 
-      module _ {v : ℕ} (q : (h : Recalls facts lists n J X new) →
-          v ≡ least (length h.S.vars) (minus (holds used) (union (variables (tree J X new j)) (hyp_vars h.S.facts (rising (length h.S.facts) (holds hyps)))))) where
-        pub scope_fits : v < 2 ^ 32
-        scope_fits =
-            let l = least_most (length g.S.vars) (minus (holds used) (union (variables (tree J X new j)) (hyp_vars g.S.facts hypotheses))) in
-            omega (arith, q scope_recalls, l, g.refers.recorded.rows.row7)
+      -- question 39, as it is asked
+      abbrev asked : Out Made (Unit {0})
+      asked = scoped g.S (holds used) (tree J X new j) hypotheses (made J X new)
 
-        pub scope_outside : {w : ℕ} → v ≡ suc w → Stopped I W J X m whole 39 (w + 1) new
-        scope_outside {w} h =
-            let z : suc w ≡ w + 1 = sym (add-one w) in
-            on_stop _ on_second (scoped_no g.S (holds used) (tree J X new j) hypotheses (made J X new) (q scope_recalls) h
-            ∙ ap (λ (d : ℕ). refuse 39 d (made J X new)) (h ∙ z))
+      pub scope_outside : {q d : ℕ} → asked ≡ refuse q d (made J X new) → Stopped I W J X m whole q d new
+      scope_outside e = on_stop _ on_second e
 
-        pub scope_inside : v ≡ 0 → TermRead I W J X m whole j new
-        scope_inside h =
-            record { went = on_done (on_pure _ on_second (scoped_yes g.S (holds used) (tree J X new j) hypotheses (made J X new) (q scope_recalls) h)); there = scope_there }
+      pub scope_inside : asked ≡ ok tt (made J X new) → TermRead I W J X m whole j new
+      scope_inside e = record { went = on_done (on_pure _ on_second e); there = scope_there }

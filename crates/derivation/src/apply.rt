@@ -192,9 +192,7 @@ impl Rule<'_> {
         let terms = store.terms();
         let mut seen = [0u64; TERMWORDS];
         visit_cells(&terms, self.bound, &mut seen, &mut used);
-        if let Some(v) = facts.outside(&terms, &used, j, &support.hyps) {
-            return Err(Question::Scope(v + 1));
-        }
+        facts.scoped(&terms, &used, j, &support.hyps)?;
         Ok(Derived {
             judgment: j,
             instances: 0,

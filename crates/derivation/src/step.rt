@@ -238,12 +238,9 @@ fn step_on(
     let at = items::place(cells, 4);
     let Concluded { judgment, used } = conclude(&source.reader, rule, store, &cells[at..], ids)?;
     let Brought { instances, support } = *brought;
-    let outside = source
+    source
         .facts()
-        .outside(&store.terms(), &used, judgment, &support.hyps);
-    if let Some(v) = outside {
-        return Err(Question::Scope(v + 1));
-    }
+        .scoped(&store.terms(), &used, judgment, &support.hyps)?;
     Ok(Derived {
         judgment,
         instances,

@@ -1,8 +1,7 @@
 use native.Mathlib.Omega.{arith}
-use mathlib.Core.Path.{refl, ap}
-use Rattle.terms.specs.Sets.{counted_from_1}
+use mathlib.Core.Path.{refl}
 use Rattle.kernel.proofs.Handed.{handed}
-use Rattle.derivation.proofs.StepScope.{scope_high, scope_given, scope_refused, scope_recalls, scope_under, scope_there, scope_fits, scope_outside, scope_inside}
+use Rattle.derivation.proofs.StepScope.{scope_high, scope_given, scope_refused, scope_recalls, scope_under, scope_there, scope_outside, scope_inside}
 use Rattle.derivation.proofs.step.step_on.Goals as goal
 
 pub offset_bounds-cells-at : goal.offset_bounds-cells-at
@@ -21,24 +20,20 @@ pub returns-in_err-judgment-clause-scoped_as : goal.returns-in_err-judgment-clau
 returns-in_err-judgment-clause-scoped_as c = λ g. rw (handed c.from_residual.result c.from_residual.ensures)
     (scope_refused g c.place-at.ensures c.in_err-judgment.ensures.used_as)
 
-pub outside-outside-requires-clause-recalls : goal.outside-outside-requires-clause-recalls
-outside-outside-requires-clause-recalls c = rw (c.facts.ensures, c.terms.ensures) (
+pub scoped-requires-clause-recalls : goal.scoped-requires-clause-recalls
+scoped-requires-clause-recalls c = rw (c.facts.ensures, c.terms.ensures) (
   scope_recalls c.requires c.place-at.ensures c.in_ok-judgment.ensures.used_as,
   scope_under c.requires c.place-at.ensures c.in_ok-judgment.ensures.used_as,
   scope_there c.requires c.place-at.ensures c.in_ok-judgment.ensures.used_as,
 )
 
-pub overflow_add-result : goal.overflow_add-result
-overflow_add-result c =
-    let o = rw (c.facts.ensures, c.terms.ensures) at c.outside-outside.ensures in
-    omega (arith, scope_fits c.requires c.place-at.ensures c.in_ok-judgment.ensures.used_as o, ap counted_from_1 c.in-Some.is)
-
-pub returns-in-Some-clause-scoped_as : goal.returns-in-Some-clause-scoped_as
-returns-in-Some-clause-scoped_as c = λ g.
-    let o = rw (c.facts.ensures, c.terms.ensures) at c.outside-outside.ensures in
-    scope_outside g c.place-at.ensures c.in_ok-judgment.ensures.used_as o (ap counted_from_1 c.in-Some.is)
+pub returns-in_err-scoped-clause-scoped_as : goal.returns-in_err-scoped-clause-scoped_as
+returns-in_err-scoped-clause-scoped_as c = λ g.
+    let o = rw (c.facts.ensures, c.terms.ensures) at c.in_err-scoped.ensures in
+    rw (handed c.from_residual-in_err-scoped.result c.from_residual-in_err-scoped.ensures)
+    (scope_outside g c.place-at.ensures c.in_ok-judgment.ensures.used_as (o (scope_recalls g c.place-at.ensures c.in_ok-judgment.ensures.used_as) _))
 
 pub returns-clause-scoped_as : goal.returns-clause-scoped_as
 returns-clause-scoped_as c = λ g.
-    let o = rw (c.facts.ensures, c.terms.ensures) at c.outside-outside.ensures in
-    (scope_inside g c.place-at.ensures c.in_ok-judgment.ensures.used_as o (ap counted_from_1 c.in_default.is), refl, refl)
+    let o = rw (c.facts.ensures, c.terms.ensures) at c.in_ok-scoped.ensures in
+    (scope_inside g c.place-at.ensures c.in_ok-judgment.ensures.used_as (o (scope_recalls g c.place-at.ensures c.in_ok-judgment.ensures.used_as) _), refl, refl)

@@ -1,7 +1,7 @@
 use native.Mathlib.Omega.{arith}
 use mathlib.Core.Path.{refl, ◌∙◌}
 use Rattle.kernel.proofs.Handed.{handed}
-use Rattle.derivation.proofs.Concluding.{to_refused, to_rule, to_cells, to_recalls, to_there, to_under, to_outside, to_fits, to_fact}
+use Rattle.derivation.proofs.Concluding.{to_refused, to_rule, to_cells, to_recalls, to_there, to_under, to_outside, to_fact}
 use Rattle.derivation.proofs.apply.Rule.apply_to.Goals as goal
 
 pub discharge-requires : goal.discharge-requires
@@ -19,8 +19,8 @@ visit_cells-requires c =
     let v = to_cells c.requires.rule_use c.requires.blank.1 _ _ c.in_ok-support.ensures.discharged_as _ refl refl c.discharge.auto.used in
     rw c.terms-terms.ensures record { readable_cells = v.0; seen = v.1 }
 
-pub outside-requires : goal.outside-requires
-outside-requires c = rw (c.terms-terms.ensures, c.facts-facts.ensures) record {
+pub scoped-requires : goal.scoped-requires
+scoped-requires c = rw (c.terms-terms.ensures, c.facts-facts.ensures) record {
   recalls = (
     to_recalls c.requires.rule_use c.requires.blank.1 _ _ c.in_ok-support.ensures.discharged_as,
     to_under c.requires.rule_use c.requires.blank.1 _ _ c.in_ok-support.ensures.discharged_as _ ((rw c.facts-facts.ensures at c.rest_on.ensures)
@@ -30,22 +30,14 @@ outside-requires c = rw (c.terms-terms.ensures, c.facts-facts.ensures) record {
   hyps_len = (omega arith, c.visit_cells.auto.set ∙ c.discharge.auto.used);
 }
 
-pub overflow_add-result : goal.overflow_add-result
-overflow_add-result c = omega (
-  arith,
-  to_fits c.requires.rule_use c.requires.blank.1 _ _ c.in_ok-support.ensures.discharged_as _ ((rw c.facts-facts.ensures at c.rest_on.ensures)
-      (to_rule c.requires.rule_use c.requires.blank.1 _ _ c.in_ok-support.ensures.discharged_as)) _ (rw c.terms-terms.ensures at c.visit_cells.ensures)
-      ((rw (c.terms-terms.ensures, c.facts-facts.ensures) at c.outside.ensures) (to_recalls c.requires.rule_use c.requires.blank.1 _ _
-      c.in_ok-support.ensures.discharged_as)) c.in-Some.is,
-)
-
-pub returns-in-Some-clause-derived_as : goal.returns-in-Some-clause-derived_as
-returns-in-Some-clause-derived_as c = λ g. to_outside g c.requires.blank.1 _ _ c.in_ok-support.ensures.discharged_as _
+pub returns-in_err-scoped-clause-derived_as : goal.returns-in_err-scoped-clause-derived_as
+returns-in_err-scoped-clause-derived_as c = λ g. rw (handed c.from_residual-in_err-scoped.result c.from_residual-in_err-scoped.ensures)
+    (to_outside g c.requires.blank.1 _ _ c.in_ok-support.ensures.discharged_as _
     ((rw c.facts-facts.ensures at c.rest_on.ensures) (to_rule g c.requires.blank.1 _ _ c.in_ok-support.ensures.discharged_as)) _
     (rw c.terms-terms.ensures at c.visit_cells.ensures)
-    ((rw (c.terms-terms.ensures, c.facts-facts.ensures) at c.outside.ensures) (to_recalls g c.requires.blank.1 _ _ c.in_ok-support.ensures.discharged_as)) c.in-Some.is
+    ((rw (c.terms-terms.ensures, c.facts-facts.ensures) at c.in_err-scoped.ensures) (to_recalls g c.requires.blank.1 _ _ c.in_ok-support.ensures.discharged_as) _))
 
 pub returns-clause-derived_as : goal.returns-clause-derived_as
 returns-clause-derived_as c = λ g. to_fact g c.requires.blank.1 _ _ c.in_ok-support.ensures.discharged_as _ ((rw c.facts-facts.ensures at c.rest_on.ensures)
     (to_rule g c.requires.blank.1 _ _ c.in_ok-support.ensures.discharged_as)) _ (rw c.terms-terms.ensures at c.visit_cells.ensures)
-    ((rw (c.terms-terms.ensures, c.facts-facts.ensures) at c.outside.ensures) (to_recalls g c.requires.blank.1 _ _ c.in_ok-support.ensures.discharged_as)) c.in_default.is
+    ((rw (c.terms-terms.ensures, c.facts-facts.ensures) at c.in_ok-scoped.ensures) (to_recalls g c.requires.blank.1 _ _ c.in_ok-support.ensures.discharged_as) _)
