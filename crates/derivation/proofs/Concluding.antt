@@ -2,24 +2,23 @@
 use mathlib.Core.Path.{◌≡◌, refl, sym, ap, ◌∙◌, subst}
 use mathlib.Core.Bool.{Bool, true, false, ◌||◌}
 use mathlib.Core.List.{List, [], ◌∷◌}
-use Prim.Native.Nat.{ℕ, suc, ◌+◌, ◌-◌, ◌<◌, ◌≤◌}
+use Prim.Native.Nat.{ℕ, suc, ◌-◌, ◌<◌}
 use native.Mathlib.Omega.{arith}
-use native.Mathlib.Numerals.{add-one}
 use lib.Dec.{eqb}
 use lib.ListN.{length, get_or, replicate}
-use Rattle.rules.specs.Limits.{VARIABLES, VARIABLEWORDS, TERMWORDS}
+use Rattle.rules.specs.Limits.{VARIABLEWORDS, TERMWORDS}
 use Rattle.rules.specs.Out.{Out, ok, refuse, then}
-use Rattle.rules.specs.Find.{Set, has, union, minus, rising, least}
+use Rattle.rules.specs.Find.{Set, has, union, rising}
 use Rattle.rules.specs.Tree.{Tree, var, none, variables, variables_of}
 use Rattle.rules.specs.Store.{Made}
-use Rattle.rules.specs.State.{State, Fact, hyp_vars}
+use Rattle.rules.specs.State.{State, Fact}
 use Rattle.rules.specs.Reference.{scoped}
 use Rattle.rules.specs.Apply.{Applied, discharge, value_vars}
 use Rattle.rules.specs.Laws.Theory.{All, empty as none_of, both}
 use Rattle.rules.specs.Laws.Rising.{has_all}
 use Rattle.terms.specs.declared.store.Mark.{Mark}
 use Rattle.terms.specs.Table.{made, tree}
-use Rattle.terms.specs.Sets.{holds, counted_from_1}
+use Rattle.terms.specs.Sets.{holds}
 use Rattle.terms.specs.Collect.{Seen}
 use Rattle.terms.specs.Theta.{bindings}
 use Rattle.terms.specs.On.{On, Stopped, on_start, on_is, on_ok, on_no, on_pure, on_stop, on_done}
@@ -29,12 +28,10 @@ use Rattle.terms.specs.Laws.Theta.{bindings_grown, theta_grown}
 use Rattle.state.specs.declared.sizes.Sizes.{Sizes}
 use Rattle.state.specs.Held.{Names}
 use Rattle.state.specs.Members.{Under}
-use Rattle.std.specs.Prelude.{Option, Some as some, None as nothing}
 use Rattle.referring.specs.Recall.{fact_of, Recalls, Refers}
 use Rattle.referring.specs.Referral.{Gathered}
 use Rattle.referring.specs.Derived.{cell_vars, ReadableCells, DerivedRead, alone}
 use Rattle.derivation.specs.Applying.{RuleFact, rule_of, apply_to, RuleUse, Discharged}
-use Rattle.referring.specs.Laws.Scoped.{least_most, scoped_yes, scoped_not}
 use Rattle.referring.specs.Laws.Refers.{refers_ready, refers_went, refers_recalls}
 use Rattle.derivation.proofs.RuleFacts.{rule_assumed_lem, rule_derived_lem}
 use Rattle.derivation.proofs.Discharging.{discharge_keeps, under_union, premises_of}

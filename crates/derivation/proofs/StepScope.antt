@@ -1,17 +1,16 @@
 -- Question 39 behind the conclusion of a step: what stays readable, and the definition's answer. Assumes nothing.
-use mathlib.Core.Path.{◌≡◌, sym, ap, ◌∙◌}
+use mathlib.Core.Path.{◌≡◌}
 use mathlib.Core.List.{List, [], ◌∷◌}
-use Prim.Native.Nat.{ℕ, suc, ◌+◌, ◌-◌, ◌^◌, ◌<◌, ◌≤◌}
+use Prim.Native.Nat.{ℕ, suc, ◌-◌, ◌<◌, ◌≤◌}
 use native.Mathlib.Omega.{arith}
-use native.Mathlib.Numerals.{add-one}
 use lib.ListN.{length, get_or, take, drop}
 use Rattle.rules.specs.Out.{Out, ok, refuse, then}
-use Rattle.rules.specs.Find.{Set, union, minus, rising, least}
+use Rattle.rules.specs.Find.{Set, rising}
 use Rattle.rules.specs.Sexp.{Sexps, rest}
-use Rattle.rules.specs.Tree.{Tree, Trees, variables}
+use Rattle.rules.specs.Tree.{Tree, Trees}
 use Rattle.rules.specs.Store.{Made}
 use Rattle.rules.specs.Theory.{Rule, rule}
-use Rattle.rules.specs.State.{State, hyp_vars}
+use Rattle.rules.specs.State.{State}
 use Rattle.rules.specs.Match.{match_all}
 use Rattle.rules.specs.Reference.{scoped}
 use Rattle.rules.specs.Step.{Items, no_items, match_stated}
@@ -35,7 +34,6 @@ use Rattle.reading.specs.Answers.{TermRead}
 use Rattle.referring.specs.Recall.{Refers, Recalls}
 use Rattle.derivation.specs.Stepping.{Concludes, Scopes, UsedRead, concluded, from_items, in_scope}
 use Rattle.referring.specs.Laws.Refers.{refers_went}
-use Rattle.referring.specs.Laws.Scoped.{least_most, scoped_yes, scoped_no}
 
 -- What is made stays -------------------------------------------------------------------------------------------------------------------
 
