@@ -34,7 +34,6 @@ use Rattle.referring.specs.Sources.{source_names}
 use Rattle.referring.specs.Recall.{Refers}
 use Rattle.referring.specs.Substitutes.{Below, Replaceables}
 use Rattle.induction.specs.declared.motive.Motive.{Motive as Statement}
-use Rattle.induction.specs.declared.motive.Rows.{Rows}
 use Rattle.induction.specs.declared.resting.Allowed.{Allowed}
 use Rattle.induction.specs.declared.induct_cases.Case.{Case}
 use Rattle.induction.specs.declared.induct.Subject.{Subject}
@@ -230,9 +229,6 @@ pub record BeforeRest (facts lists : List ℕ) (n : Sizes) (plain used : List �
   pub filled : length ids ≡ many * suc k
   pub known : Below m.terms ids
   pub there : j < m.terms
-
-abbrev pub RestsIn : Facts → List ℕ → List ℕ → ℕ → Rows → ℕ → Type 0
-RestsIn f plain used x a j = BeforeRest f.rows.now f.lists.now f.n plain used x a.width a.cells.now j
 
 -- fact i concludes the case, and rests on what it may
 unfoldable pub case_fact : State → Motive → Trees → List Hyp → ℕ → Tree → Act Made (Unit {0})

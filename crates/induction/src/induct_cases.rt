@@ -4,9 +4,8 @@ ghost use Rattle.rules.specs.Limits.{TERMS};
 ghost use Rattle.rules.specs.Theory.{constructors};
 ghost use Rattle.rules.specs.Induct.{Motive as Proved, motive_vars, case_vars, induct_cases};
 ghost use Rattle.terms.specs.Lent.{SameTables, made_of};
-ghost use Rattle.terms.specs.Table.{made, tree};
 ghost use Rattle.terms.specs.Sets.{holds};
-ghost use Rattle.induction.specs.Inducing.{Roomy, PassedAs, motive_of, case_fact, asked, hyps_in, RestsIn, case_behind, CaseIn, Cased, NamesIn, NamedAs, ReadsCase, CaseAs, ReadsCases};
+ghost use Rattle.induction.specs.Inducing.{Roomy, PassedAs, motive_of, case_behind, CaseIn, Cased, NamesIn, NamedAs, ReadsCase, CaseAs, ReadsCases};
 
 use crate::motive::{Motive, Rows};
 use crate::resting::Allowed;
@@ -102,32 +101,6 @@ fn read_case<'a>(
     })
 }
 
-// The judgments of the induction hypotheses join the set, where the motive has no premises; then the questions of fact i.
-fn case_rests(
-    facts: &Facts<'_>,
-    i: usize,
-    judgment: usize,
-    plain: &mut [u64],
-    used: &[u64],
-    x: usize,
-    rows: &Rows<'_>,
-) -> Result<(), Question>
-    requires { RestsIn facts.now plain.old used.now x rows.now judgment }
-    ensures { (g : RestsIn facts.now plain.old used.now x rows.now judgment) →
-        case_fact g.S g.M g.ps (hyps_in (made g.I g.W g.m) rows.now.width g.many rows.now.cells.now) i (tree g.I g.W g.m judgment) (made g.I g.W g.m) ≡ asked result (made g.I g.W g.m) }
-{
-    if rows.width == 0 {
-        insert_all(rows.cells, plain);
-    }
-    let allowed = Allowed {
-        plain,
-        used,
-        x,
-        rows: *rows,
-    };
-    allowed.case_fact(facts, i, judgment)
-}
-
 // A case behind its variables: the motive at the constructor, the induction hypotheses, the questions of its fact. `memo` is scratch: zero before and
 // after; so is `ids`, of whatever content: who lends it clears it.
 fn case_terms(
@@ -157,9 +130,17 @@ fn case_terms(
         cells: &ids[..end],
         width,
     };
-    case_rests(
-        facts, case.fact, judgment, &mut plain, used, motive.x, &rows,
-    )
+    // without premises an induction hypothesis is a judgment, which a case may rest on as on a plain hypothesis
+    if width == 0 {
+        insert_all(rows.cells, &mut plain);
+    }
+    let allowed = Allowed {
+        plain: &plain,
+        used,
+        x: motive.x,
+        rows,
+    };
+    allowed.case_fact(facts, case.fact, judgment)
 }
 
 // The cases that the items spell, each with a constructor of the sort, by position.
