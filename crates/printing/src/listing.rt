@@ -5,8 +5,10 @@ use rules::{RULES, SYMBOLS};
 use std::alloc::Global;
 use std::io::Write;
 use std::{fmt, io};
+use terms::sets::has;
 
-// What stands before item i of a list: one space between two of them.
+// What stands before item i of a list: one space between two of them. One writer of lists that is handed a closure is no plainer: numbers are written to a
+// `fmt::Write`, terms and variables to an `io::Write`.
 fn gap(i: usize) -> &'static str {
     if i == 0 { "" } else { " " }
 }
@@ -70,7 +72,7 @@ impl Checked<'_> {
     fn write_footing<W: Write>(&self, k: usize, words: &[u64; 4], out: &mut W) -> io::Result<()> {
         write!(out, "(footing {k}")?;
         for r in 0..RULES {
-            if (words[r / 64] >> (r % 64)) & 1 == 1 {
+            if has(words, r) {
                 write!(out, " {}", self.rule_name(r))?;
             }
         }

@@ -38,6 +38,16 @@ impl From<AllocError> for LoadError {
     }
 }
 
+impl From<FillError> for LoadError {
+    fn from(error: FillError) -> LoadError {
+        let number = match error {
+            FillError::TooLong => TOO_LONG,
+            FillError::NotPresent => MISSING,
+        };
+        LoadError::Argument(Error::from_raw_os_error(number))
+    }
+}
+
 impl LoadError {
     // The message for standard error of the program of this name. It is no `Display`, since a file's name may not be text.
     pub fn write<W: Write>(self, program: &str, out: &mut W) -> io::Result<()> {
@@ -80,20 +90,14 @@ fn read_file<R: Files + AllocGlobal>(rt: &R, name: &[u8]) -> io::Result<Vec<u8>>
 fn read_named<R: Files + AllocGlobal>(rt: &R, name: Vec<u8>) -> Result<Vec<u8>, LoadError>
     ensures { IfOk result (λ text. vec_len text ≤ 65537) }
 {
-    match read_file(rt, &name) {
-        Ok(text) => Ok(text),
-        Err(error) => Err(LoadError::File { name, error }),
-    }
+    read_file(rt, &name).map_err(|error| LoadError::File { name, error })
 }
 
 // What argument i says. It is bytes, since a name that is not UTF-8 is named in the message.
 fn argument<R: Env + AllocGlobal>(rt: &R, i: usize) -> Result<Vec<u8>, LoadError> {
     let mut name = [0u8; 4096];
-    match rt.arg(i, &mut name) {
-        Ok(n) => Ok(Vec::from_slice(rt.alloc(), &name[..n])?),
-        Err(FillError::TooLong) => Err(LoadError::Argument(Error::from_raw_os_error(TOO_LONG))),
-        Err(FillError::NotPresent) => Err(LoadError::Argument(Error::from_raw_os_error(MISSING))),
-    }
+    let n = rt.arg(i, &mut name)?;
+    Ok(Vec::from_slice(rt.alloc(), &name[..n])?)
 }
 
 // Whether there is an argument i; argument 0 is the program's own name.

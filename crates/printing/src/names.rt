@@ -56,7 +56,7 @@ impl<'a> Checked<'a> {
         }
     }
 
-    // The text in which a variable's name stands.
+    // The text in which a variable's name stands, by the number in its cell, which C reads; a `match` over the number would have to say 2 and 3.
     fn text(&self, number: u32) -> &'a [u8] {
         let number = number as usize;
         if number == Text::Goals.number() {
@@ -68,6 +68,7 @@ impl<'a> Checked<'a> {
         self.theory
     }
 
+    // 0 in a cell is none: docs/TABLES.md
     pub(crate) fn is_predicate(&self, head: usize) -> bool {
         self.symbols.get(head).is_some_and(|row| row[0] == 0)
     }

@@ -7,6 +7,7 @@ use questions::Text;
 use rules::FACTS;
 
 impl Checked<'_> {
+    // A text is known by its number, in the answer and in a cell, which C reads; 0 in a cell is none: docs/TABLES.md
     pub fn recorded(&self) -> usize
         ensures { result ≤ FACTS }
     {
