@@ -74,10 +74,6 @@ module _ {theory goals proof : List ℕ} {T : TheoryLists} {B : Board} {n : Size
   abbrev pub finish_asks : FinishGiven e c B n m
   finish_asks = record { theory = theory; goals = goals; proof = proof; T = T; S = r.S; over = r.over; counted = r.counted }
 
-  -- what `zero_behind` asks
-  pub blanks : (n.facts ≤ FACTS) × (FACTS ≤ length ys)
-  blanks = (omega (arith, r.over.stands.recorded.many, r.over.stands.recorded.rows.row12), r.room)
-
   -- what is left then: gs the records, with blank ones; W, J: the words and the index of the store
   pub whole : {fs gs : List Fact} {W J list : List ℕ} {o : Result Report Refusal} → drop FACTS ys ≡ drop FACTS fs → J ≡ settled B.index → W ≡ B.words →
       Finishes theory goals proof o list → gs ≡ zeroed ys n.facts FACTS →

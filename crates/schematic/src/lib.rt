@@ -49,7 +49,7 @@ fn prove(
 {
     let mut at = 0;
     let mut forms = 0;
-    // from form to form, which is no count
+    // from form to form, which is no count; `next_form` fills lent tables, which an iterator would have to hold and lend on
     loop {
         let n = board.n.facts;
         let step = match next_form(given, board, store, scratch, at) {
@@ -118,8 +118,8 @@ fn check_exact(
     answer
 }
 
-// The same in tables of the theory of their named lengths, and others that may be longer. These stand one by one since C lends them so, and are most of
-// its length.
+// The same in tables of the theory of their named lengths, and others that may be longer. These stand one by one: a struct of lent tables was tried, and the
+// check loses what becomes of parts that another struct is made of.
 fn check_long(
     texts: &Texts<'_>,
     tables: &mut Tables<'_>,
@@ -181,8 +181,8 @@ fn check_long(
     )
 }
 
-// The same in tables that are all long enough. They stand one by one since C lends them so; the texts are a struct already, since beside one that is made
-// here the check loses what becomes of the parts of slices that another struct is made of.
+// The same in tables that are all long enough. They stand one by one: a struct of lent tables was tried, and the check loses what becomes of parts that
+// another struct is made of. So the texts, too, are a struct already, and not made here.
 fn check_fit(
     texts: &Texts<'_>,
     sorts: &mut [u32],
