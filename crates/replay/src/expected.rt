@@ -7,18 +7,22 @@ use std::io::Write;
 use tabled::answers::answer;
 use tabled::told::tell;
 
-// A writer that only compares: what is still expected, and whether nothing else came so far. What comes behind it may be anything.
+// A writer that only compares: what is still expected, none once something else came. What comes behind it may be anything.
 #[derive(Drop)]
 struct Expected<'a> {
-    rest: &'a [u8],
-    same: bool,
+    rest: Option<&'a [u8]>,
 }
 
 impl Write for Expected<'_> {
     fn write(&mut self, buf: &[u8]) -> io::Result<usize> {
-        let (now, later) = self.rest.split_at(self.rest.len().min(buf.len()));
-        self.same = self.same && buf.starts_with(now);
-        self.rest = later;
+        if let Some(rest) = self.rest {
+            let (now, later) = rest.split_at(rest.len().min(buf.len()));
+            self.rest = if buf.starts_with(now) {
+                Some(later)
+            } else {
+                None
+            };
+        }
         Ok(buf.len())
     }
 
@@ -32,28 +36,29 @@ fn is_stored(recorded: &[u8]) -> bool {
     recorded.len() != 2 || recorded[0] != b'-'
 }
 
+// Whether what is written begins with all that is wanted.
+fn writes<'a, F: FnOnce(&mut Expected<'a>) -> io::Result<()>>(
+    wanted: &'a [u8],
+    write: F,
+) -> io::Result<bool>
+    requires { F.IsAlwaysCallable write }
+{
+    let mut out = Expected { rest: Some(wanted) };
+    write(&mut out)?;
+    Ok(out.rest.is_some_and(|rest| rest.is_empty()))
+}
+
 // Whether the answer's line is the case's, and where they are stored, its facts and footings.
 pub fn is_as_expected(alloc: Global, case: &Case) -> io::Result<bool> {
     let mut wanted = Vec::from_slice(alloc, &case.answer)?;
     wanted.push(b'\n')?;
     if !is_stored(&case.recorded) {
-        let mut out = Expected {
-            rest: &wanted,
-            same: true,
-        };
-        writeln!(
-            out,
-            "{}",
-            Line(answer(&case.theory, &case.goals, &case.proof))
-        )?;
-        return Ok(out.same && out.rest.is_empty());
+        let line = Line(answer(&case.theory, &case.goals, &case.proof));
+        return writes(&wanted, |out| writeln!(out, "{line}"));
     }
     wanted.extend_from_slice(&case.recorded)?;
     wanted.extend_from_slice(b"(missing [")?;
-    let mut out = Expected {
-        rest: &wanted,
-        same: true,
-    };
-    tell(alloc, &case.theory, &case.goals, &case.proof, &mut out)?;
-    Ok(out.same && out.rest.is_empty())
+    writes(&wanted, |out| {
+        tell(alloc, &case.theory, &case.goals, &case.proof, out)
+    })
 }

@@ -15,7 +15,7 @@ pub mod told;
 use facts::Fact;
 use running::finish::{Refusal, Report};
 
-// The row of fact i.
+// The row of fact i: the record's six numbers into cells, one by one, since an array of them to copy would name each as well.
 fn put_row(rows: &mut [u32], i: usize, f: Fact)
     requires { 6 * i + 6 ≤ length rows.old }
     ensures { rows.new ≡ sets rows.old (6 * i) (fact_row f) }
@@ -51,8 +51,8 @@ fn store_rows(facts: &[Fact], rows: &mut [u32], feet: &mut [u64])
     }
 }
 
-// The answer, the tables as a check leaves them, and the facts in the last two. The tables stand one by one as in `schematic::check`, to which they are
-// lent on: they are most of its length.
+// The answer, the tables as a check leaves them, and the facts in the last two. It is public and promised (`Tabled`) for tables of any length; they are lent
+// on one by one to `schematic::check`, and are most of its length.
 pub fn check_rows(
     theory: &[u8],
     goals: &[u8],
