@@ -41,7 +41,7 @@ fn tell(out: &mut [u64], answer: Result<Report, Refusal>)
     put(out, &eight.map(|n| n as u64));
 }
 
-// The whole check. A slice of fewer than eight numbers gets no answer.
+// The whole check. A slice of fewer than eight numbers gets no answer. C lends each table and text as pointer and length, so that they stand one by one.
 #[unsafe(no_mangle)]
 pub extern "C" fn tariff_check(
     theory: &[u8],
