@@ -12,24 +12,22 @@ use lib.Seq.{drop-cons, take-suc-set}
 use borrow.Author.Tests.{eq-eqb, ne_eqb}
 use Rattle.rules.specs.Limits.{ARGUMENTS, VARIABLES, VARIABLEWORDS}
 use Rattle.rules.specs.Out.{Out, ok, refuse, then, found, ask}
-use Rattle.rules.specs.Text.{same}
-use Rattle.rules.specs.Sexp.{Sexp, Sexps, atom, list, cons, count}
+use Rattle.rules.specs.Sexp.{Sexp, Sexps, cons, count}
 use Rattle.rules.specs.Find.{Set, has}
 use Rattle.rules.specs.Store.{Made}
-use Rattle.rules.specs.State.{State, Var, no_var, var_named, sort_of_var}
+use Rattle.rules.specs.State.{State, Var, sort_of_var}
 use Rattle.rules.specs.Induct.{Motive, motive_vars, case_vars}
-use Rattle.rules.specs.Laws.Find.{first_some}
 use Rattle.sexp.specs.Items.{Holds, item_at, behind}
 use Rattle.sexp.specs.ItemLaws.{More, At, at_next, item_here, behind_item}
 use Rattle.sexp.specs.Encode.{encode}
 use Rattle.sexp.specs.WalkLaws.{Walk, walk_start, walk_more, walk_over, walk_rest}
 use Rattle.sexp.specs.FoundLaws.{found_at, found_missing}
-use Rattle.sexp.specs.Never.{never}
 use Rattle.terms.specs.Sets.{holds, plus}
 use Rattle.terms.specs.Laws.Sets.{holds_zero}
 use Rattle.state.specs.Held.{VarsHeld}
 use Rattle.state.specs.Rows.{SomeVars, cell}
 use Rattle.state.specs.VarLaws.{vars_long, var_sort_is}
+use Rattle.reading.specs.Laws.Lists.{variable_below}
 use Rattle.reading.specs.Items.{FirstItem, variable_in, variable_found}
 use Rattle.sexp.specs.Each.{Here}
 use Rattle.sexp.specs.declared.items.Each.{Each}
@@ -44,12 +42,6 @@ module _ {text words : List ℕ} {at : ℕ} {x : Sexp} {ys : Sexps} (k : Walk te
 
   pub walk_behind : Walk text words next ys
   walk_behind = record { here = subst (λ (z : ℕ). At words z ys) (sym next_is) (at_next k.here); spelt = k.spelt.1 }
-
--- a variable that is found is one of them
-pub variable_below : (vs : List Var) (x : Sexp) (v : ℕ) → variable_in vs x ≡ some v → v < length vs
-unfolding variable_in var_named
-variable_below vs (atom p bs) v e = let f = first_some (λ (w : Var). same w.name.bytes bs) vs 0 v no_var e in omega (arith, f.is, f.inside)
-variable_below vs (list xs) v e = never cc
 
 has_snoc : (xs : List ℕ) (v w : ℕ) → has (xs ++ (v ∷ [])) w ≡ (has xs w || eqb w v)
 unfolding has

@@ -41,7 +41,8 @@ use Rattle.reading.specs.Answers.{HypsRead}
 use Rattle.referring.specs.declared.support.Derived.{Derived}
 use Rattle.referring.specs.Derived.{FactForm, DerivedBy, alone}
 use Rattle.induction.specs.Inducing.{SubjectItems, InductForm}
-use Rattle.induction.proofs.CaseNames.{walk_behind, variable_below}
+use Rattle.reading.specs.Laws.Lists.{variable_below}
+use Rattle.induction.proofs.CaseNames.{walk_behind}
 use Rattle.induction.proofs.InductForms.{derived_on}
 
 -- a list of hypotheses rises
