@@ -108,8 +108,8 @@ module _ {S : Type 0} {f : Sexp → Act S (Unit {0})} {text w₀ w : List ℕ} {
   clean = rw g.same g.legible.clear
 
   -- what `read_form` asks
-  pub going_asks : Legible text w
-  going_asks = rw g.same g.legible
+  pub going_asks : (at ≤ length text) × Legible text w
+  going_asks = (g.high, rw g.same g.legible)
 
   module _ {v : List ℕ} {r : Result (Option Form) Question} (k : ReadRight text at w v r) where
     back : v ≡ replicate (length w) 0 → v ≡ w₀
@@ -131,7 +131,7 @@ module _ {S : Type 0} {f : Sexp → Act S (Unit {0})} {text w₀ w : List ℕ} {
     module _ {form : Form} (e : r ≡ Ok (some form)) where
       -- the form's cells are the first ones
       pub going_form : FormIs text at w v form.end form.cells
-      going_form = at_form k going_asks.fits e
+      going_form = at_form k going_asks.1.fits e
 
       pub going_room : length v ≡ length w → form.cells ≤ length v
       going_room l = omega (arith, going_form.room, l)

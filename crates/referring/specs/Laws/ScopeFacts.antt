@@ -1,5 +1,5 @@
 -- One fact, as `mention` reads it: its judgment and its premises. Assumes nothing.
-use Rattle.std.specs.Prelude.{◌≡◌, List, ℕ, ◌<◌, length, get_or}
+use Rattle.std.specs.Prelude.{◌≡◌, List, ℕ, ◌≤◌, ◌<◌, length, get_or}
 use Rattle.std.proofs.Common.{sym, ◌∙◌, subst, arith}
 use Rattle.std.proofs.Math.Path.{ap}
 use Rattle.rules.specs.Limits.{ENTRIES, TERMWORDS, VARIABLEWORDS}
@@ -13,6 +13,7 @@ use Rattle.terms.specs.declared.store.Mark.{Mark}
 use Rattle.terms.specs.Table.{args_of, made, tree}
 use Rattle.terms.specs.Collect.{Readable, Visited}
 use Rattle.terms.specs.Laws.Growth.{made_length}
+use Rattle.cells.specs.declared.Span.{Span}
 use Rattle.state.specs.declared.sizes.Sizes.{Sizes}
 use Rattle.state.specs.Held.{records}
 use Rattle.state.specs.Rows.{cell, FactAt, premises_span}
@@ -36,6 +37,14 @@ module _ {facts lists : List ℕ} {n : Sizes} {I W : List ℕ} {m : Mark} (g : R
   pub judgment_ready : {j : ℕ} {seen set : List ℕ} → j ≡ cell 6 facts i 0 → length seen ≡ TERMWORDS → length set ≡ VARIABLEWORDS → Readable I W m j seen set
   judgment_ready e p q =
       record { good = g.good; there = omega (arith, row.judgment.below, made_length I W m); wide = omega arith; broad = omega arith }
+
+  -- the premises lie in the lists
+  module _ {s : Span} (e : s ≡ premises_span facts i) where
+    pub premises_order : s.from ≤ s.end
+    premises_order = omega (arith, ap (λ (t : Span). t.from) e, ap (λ (t : Span). t.end) e)
+
+    pub premises_end : s.end ≤ length lists
+    premises_end = omega (arith, ap (λ (t : Span). t.end) e, row.inside, lists_are)
 
   module _ {own : List ℕ} (e : own ≡ part lists (premises_span facts i)) where
     are : own ≡ numbers (made I W m) (fact_of g.S i).premises

@@ -1,5 +1,5 @@
 -- The variables of a hypothesis that it does not generalise. Assumes nothing.
-use Rattle.std.specs.Prelude.{◌≡◌, refl, ℕ, ◌*◌, ◌<◌, length, get_or, replicate}
+use Rattle.std.specs.Prelude.{◌≡◌, refl, ℕ, ◌*◌, ◌≤◌, ◌<◌, length, get_or, replicate}
 use Rattle.std.proofs.Math.Path.{sym, ap, subst}
 use Rattle.std.proofs.Common.{◌∙◌, arith}
 use Rattle.std.proofs.lemmas.List.{nil_from_length}
@@ -14,12 +14,13 @@ use Rattle.terms.specs.Sets.{holds}
 use Rattle.terms.specs.Collect.{Seen}
 use Rattle.terms.specs.Laws.Sets.{holds_zero}
 use Rattle.terms.specs.Laws.Seen.{seen_wider}
+use Rattle.cells.specs.declared.Span.{Span}
 use Rattle.state.specs.declared.sizes.Sizes.{Sizes}
 use Rattle.state.specs.Rows.{general_span}
 use Rattle.state.specs.Entries.{part}
 use Rattle.referring.specs.Recall.{fact_of, Recalls}
 use Rattle.referring.specs.Referral.{Gathered}
-use Rattle.referring.specs.Laws.ScopeFacts.{row}
+use Rattle.referring.specs.Laws.ScopeFacts.{row, lists_are}
 
 has_none : has [] ≡ empty
 unfolding has
@@ -28,6 +29,14 @@ has_none = refl
 -- a set that was empty before others joined it
 pub from_zeros : (k : ℕ) (a b : Set) → a ≡ union (holds (replicate k 0)) b → a ≡ b
 from_zeros k a b e = e ∙ ap (λ (c : Set). union c b) (holds_zero k)
+
+-- the generalised variables lie in the lists
+module _ {facts lists : List ℕ} {n : Sizes} {I W : List ℕ} {m : Mark} (g : Recalls facts lists n I W m) {i : ℕ} (l : i < n.facts) {s : Span} (e : s ≡ general_span facts i) where
+  pub general_order : s.from ≤ s.end
+  general_order = omega (arith, ap (λ (t : Span). t.from) e, ap (λ (t : Span). t.end) e)
+
+  pub general_end : s.end ≤ length lists
+  general_end = omega (arith, ap (λ (t : Span). t.end) e, (row g l).inside, lists_are g l)
 
 module _ {facts lists : List ℕ} {n : Sizes} {I W : List ℕ} {m : Mark} (g : Recalls facts lists n I W m) {i : ℕ} (l : i < n.facts) {own : List ℕ} (e : own ≡ part lists (general_span facts i)) where
   are : own ≡ (fact_of g.S i).general
