@@ -1,4 +1,5 @@
 -- What one form is given and what it leaves, in tables of their named lengths. Assumes nothing.
+use Rattle.state.specs.Records.{fact_rows, fact_feet}
 use Rattle.std.specs.Prelude.{◌≡◌, List, ℕ, ◌+◌, ◌*◌, ◌<◌, ◌≤◌, take, replicate, Option, Some as some, None as nothing, Result, Ok, Err}
 use Rattle.rules.specs.Limits.{LENGTH, TERMS, FACTS}
 use Rattle.rules.specs.State.{State}
@@ -16,7 +17,7 @@ use Rattle.induction.specs.Inducing.{IDS}
 use Rattle.forms.specs.Boards.{theory_of}
 use Rattle.running.specs.declared.stopped.Stopped.{Stopped}
 use Rattle.running.specs.Course.{Underway, Over}
-use Rattle.running.specs.Between.{Few, StoredAs}
+use Rattle.running.specs.Between.{Few}
 use Rattle.advancing.specs.declared.advance.Scratch.{Scratch}
 use Rattle.advancing.specs.declared.advance.Advance.{Advance}
 
@@ -53,8 +54,8 @@ pub record Ready (g : Given) (b : Board) (s : Store) (p : ℕ) : Type 0 where
 
 -- the rows of facts that there were stay
 pub record Stay (b c : Board) : Type 0 where
-  pub same_rows : take (6 * b.n.facts) c.facts.now ≡ take (6 * b.n.facts) b.facts.now
-  pub same_feet : take (4 * b.n.facts) c.footings.now ≡ take (4 * b.n.facts) b.footings.now
+  pub same_rows : take (6 * b.n.facts) (fact_rows c.facts.now) ≡ take (6 * b.n.facts) (fact_rows b.facts.now)
+  pub same_feet : take (4 * b.n.facts) (fact_feet c.facts.now) ≡ take (4 * b.n.facts) (fact_feet b.facts.now)
 
 -- a form is taken that began at p; S: the state before; c, t: the tables and the store afterwards
 pub record Stepped (g : Given) (b c : Board) (t : Store) (k p : ℕ) (S : State) (a : Advance) : Type 0 where
@@ -63,7 +64,6 @@ pub record Stepped (g : Given) (b c : Board) (t : Store) (k p : ℕ) (S : State)
   pub counted : after.counts ≡ plus S.counts (counts_of a.counts)
   pub small : Few a.counts 1
   pub few : (c : Counts) → Few c k → Few (sum c a.counts) (k + 1)
-  pub stored_as : StoredAs a.fact b.n.facts c.n.facts c.facts.now c.footings.now
   pub room : c.n.facts ≤ FACTS
   pub sooner : p < a.end
 

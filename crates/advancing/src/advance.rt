@@ -1,14 +1,11 @@
 // One form of the proof: the next one is read into cells, taken, and the cells are cleared again.
-ghost use Rattle.std.specs.Prelude.{◌≡◌, ◌*◌, ◌<◌, ◌≤◌, ltb, length};
-ghost use Rattle.rules.specs.Limits.{FACTS};
+ghost use Rattle.std.specs.Prelude.{◌≡◌};
 ghost use Rattle.terms.specs.Lent.{SameTables};
-ghost use Rattle.forms.specs.Boards.{SameBoard};
-ghost use Rattle.advancing.specs.Handed.{record_at, stored_at};
+ghost use Rattle.state.specs.Boards.{SameBoard};
 ghost use Rattle.advancing.specs.Stepped.{IdleIn, SameScratch, Ready, AdvancedAs, Stay};
 
 use cells::clear;
 use counts::Counts;
-use facts::Fact;
 use questions::Question;
 use sexp::sexp::read_form;
 use state::board::{Board, Given};
@@ -23,41 +20,11 @@ pub struct Scratch<'a> {
     pub memo: &'a mut [u32],
 }
 
-// A form that was taken: where the next one begins, the fact that it stored, and what it counts.
+// A form that was taken: where the next one begins, and what it counts. The fact that it stored, if any, stands in the lent records.
 #[derive(Clone, Copy)]
 pub struct Advance {
     pub end: usize,
-    pub fact: Option<Fact>,
     pub counts: Counts,
-}
-
-// Row i of the facts, with the words of its footing, as a record.
-fn fact_in(facts: &[u32], footings: &[u64], i: usize) -> Fact
-    requires { (length facts.now ≡ 6 * FACTS) × (length footings.now ≡ 4 * FACTS) × (i < FACTS) }
-    ensures { result ≡ record_at facts.now footings.now i }
-{
-    let [judgment, assumed, first, hyps, premises, general] = facts.as_chunks::<6>().0[i];
-    let footing = footings.as_chunks::<4>().0[i];
-    Fact {
-        judgment,
-        assumed,
-        first,
-        hyps,
-        premises,
-        general,
-        footing,
-    }
-}
-
-// The fact that was stored since there were n: it is in the first row that was free then.
-fn stored(board: &Board<'_>, n: usize) -> Option<Fact>
-    requires { (length board.now.facts.now ≡ 6 * FACTS) × (length board.now.footings.now ≡ 4 * FACTS) × (board.now.n.facts ≤ FACTS) }
-    ensures { result ≡ stored_at (ltb n board.now.n.facts) board.now.facts.now board.now.footings.now n }
-{
-    if n < board.n.facts {
-        return Some(fact_in(board.facts, board.footings, n));
-    }
-    None
 }
 
 // The form that begins at a place of the proof; none where there is no further one.
@@ -82,13 +49,11 @@ pub fn next_form(
     let Some(form) = read_form(given.text, at, cells)? else {
         return Ok(None);
     };
-    let n = board.n.facts;
     let taken = take_form(given, board, store, &cells[..form.cells], ids, memo);
     clear(&mut cells[..form.cells]);
     let counts = taken?;
     Ok(Some(Advance {
         end: form.end,
-        fact: stored(board, n),
         counts,
     }))
 }

@@ -1,10 +1,14 @@
 -- Cleared tables: they are those of a theory that declares nothing, and of a check that has nothing but a theory. Assumes nothing.
 use mathlib.Core.Path.{◌≡◌, refl, sym, ap, ◌∙◌, subst}
-use mathlib.Core.List.{List, []}
+use mathlib.Core.List.{List, [], ◌++◌, append-nil}
 use Prim.Native.Nat.{ℕ, ◌*◌, ◌≤◌}
 use native.Mathlib.Omega.{arith}
-use lib.ListN.{length, replicate}
-use Rattle.rules.specs.Limits.{LENGTH, SORTS, SYMBOLS, ARGUMENTS, RULES, RULEVARS, PATTERNS, VARIABLES, TERMS, WORDS, DEFS, GOALS, ENTRIES}
+use lib.ListN.{length, replicate, drop_of_length-le}
+use Rattle.facts.specs.declared.Fact.{Fact}
+use Rattle.facts.specs.Table.{blank, zeroed}
+use Rattle.facts.specs.Laws.{zeroed_is}
+use Rattle.state.specs.Records.{rows_blank, fact_row, fact_foot, fact_rows, fact_feet, length_fact_rows}
+use Rattle.rules.specs.Limits.{LENGTH, SORTS, SYMBOLS, ARGUMENTS, RULES, RULEVARS, PATTERNS, VARIABLES, TERMS, WORDS, DEFS, GOALS, FACTS, ENTRIES}
 use Rattle.rules.specs.Theory.{Theory, no_theory, rule_words}
 use Rattle.rules.specs.State.{begin, goal_entries, all_entries, entries}
 use Rattle.rules.specs.TheoryTables.{rows, rule_cells, sort_table, symbol_table, input_table, rule_table, rule_var_table, pattern_table}
@@ -18,7 +22,8 @@ use Rattle.terms.specs.Laws.Empty.{good_empty, made_empty}
 use Rattle.state.specs.declared.sizes.Sizes.{Sizes}
 use Rattle.state.specs.Filled.{filled_none}
 use Rattle.state.specs.Stands.{texts, Board, board, Stands, stands_begin}
-use Rattle.beginning.specs.Lengths.{no_mark, theory_sizes}
+use Rattle.state.specs.Used.{theory_sizes}
+use Rattle.beginning.specs.Lengths.{no_mark}
 use Rattle.beginning.specs.Opened.{no_board, Lending, Cleared}
 
 -- One table ------------------------------------------------------------------------------------------------------------------------
@@ -79,13 +84,23 @@ nothing_held text =
 
 -- The others -------------------------------------------------------------------------------------------------------------------------
 
-pub board_cleared : (B : Board) → Lending B → (a b c d e f : List ℕ) → a ≡ replicate (length B.vars) 0 → b ≡ replicate (length B.index) 0 →
+pub blank_rows : (fs gs : List Fact) → length (fact_rows fs) ≡ 6 * FACTS → gs ≡ zeroed fs 0 FACTS →
+    (fact_rows gs ≡ replicate (6 * FACTS) 0) × (fact_feet gs ≡ replicate (4 * FACTS) 0)
+blank_rows fs gs l e =
+    let none = drop_of_length-le fs {i = FACTS} (omega (arith, length_fact_rows fs, l)) in
+    let q : gs ≡ replicate FACTS blank =
+    e ∙ zeroed_is fs 0 FACTS ∙ ap (λ (r : List Fact). replicate FACTS blank ++ r) none ∙ append-nil (replicate FACTS blank) in (
+      ap fact_rows q ∙ rows_blank fact_row 6 (λ f. refl) blank refl FACTS,
+      ap fact_feet q ∙ rows_blank fact_foot 4 (λ f. refl) blank refl FACTS,
+    )
+
+pub board_cleared : (B : Board) → Lending B → (a b c d e f g h : List ℕ) → a ≡ replicate (length B.vars) 0 → b ≡ replicate (length B.index) 0 →
     c ≡ replicate (length B.words) 0 → d ≡ replicate (length B.defs) 0 → e ≡ replicate (length B.goals) 0 →
-    f ≡ replicate (length B.lists) 0 → board a b c d e B.facts B.footings f ≡ no_board
-board_cleared B h a b c d e f p q r s u v =
+    (f ≡ replicate (6 * FACTS) 0) × (g ≡ replicate (4 * FACTS) 0) → h ≡ replicate (length B.lists) 0 → board a b c d e f g h ≡ no_board
+board_cleared B h a b c d e f g j p q r s u w v =
     let x = h.exact in
     λ i. board (zeros_of (4 * VARIABLES) p x.vars i) (zeros_of (4 * TERMS) q x.index i) (zeros_of WORDS r x.words i)
-    (zeros_of (3 * DEFS) s x.defs i) (zeros_of (6 * GOALS) u x.goals i) (h.facts_zero i) (h.footings_zero i) (zeros_of ENTRIES v x.lists i)
+    (zeros_of (3 * DEFS) s x.defs i) (zeros_of (6 * GOALS) u x.goals i) (w.0 i) (w.1 i) (zeros_of ENTRIES v x.lists i)
 
 -- What stands then -------------------------------------------------------------------------------------------------------------------
 

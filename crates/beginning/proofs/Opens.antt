@@ -1,5 +1,6 @@
 -- Where a check stands when a question is left before the proof, and where the proof begins. Assumes nothing.
-use mathlib.Core.Path.{◌≡◌, refl, sym, ap, ◌∙◌}
+use mathlib.Core.Path.{◌≡◌, refl, sym, ap, ◌∙◌, subst}
+use Rattle.sexp.specs.Never.{never}
 use mathlib.Core.Bool.{Bool, true, false}
 use mathlib.Core.List.{List, []}
 use Prim.Native.Nat.{ℕ, ◌≤◌}
@@ -20,14 +21,15 @@ use Rattle.kernel.specs.Layout.{verdict_formed, judged_done, judged_refused}
 use Rattle.kernel.specs.declared.tables.Counts.{Counts}
 use Rattle.std.specs.Prelude.{Result, Ok, Err}
 use Rattle.questions.specs.declared.Refused.{Refused}
+use Rattle.questions.specs.declared.Text.{Text}
 use Rattle.questions.specs.declared.Text.TheVariants as text
 use Rattle.terms.specs.declared.store.Mark.{Mark}
 use Rattle.state.specs.declared.sizes.Sizes.{Sizes}
 use Rattle.state.specs.Stands.{Texts, texts, Board, Stands, stands_proof}
+use Rattle.state.specs.Used.{theory_sizes}
 use Rattle.running.specs.declared.stopped.Stopped.{Stopped}
 use Rattle.running.specs.Course.{outcome_of}
 use Rattle.beginning.specs.Asking.{Plain, LeftIn}
-use Rattle.beginning.specs.Lengths.{theory_sizes}
 use Rattle.beginning.specs.Posed.{theory_in, Posing, Fresh, Posed}
 use Rattle.beginning.specs.Opened.{Opening, Cleared, Opened}
 use Rattle.beginning.proofs.Blank.{theory_stands, nothing_stands}
@@ -35,6 +37,15 @@ use Rattle.beginning.proofs.Blank.{theory_stands, nothing_stands}
 -- what follows question 25
 abbrev outcome_by : List ℕ → ℕ → State → Bool → Outcome
 outcome_by proof k S b = elim b [ true ↦ refused_in 2 25 0 k S | false ↦ after_proof (through take_form (read proof) 0 S) ]
+
+-- a question that is handed on, with its text beside it
+abbrev pub in_text : {A : Type 0} → Text → Result A Refused → Result A Stopped
+in_text t (Ok x) = Ok x
+in_text t (Err e) = Err (record { text = t; refused = e })
+
+judged_ok : {A : Type 0} (t : Text) {x : A} (a : Result A Refused) → in_text t a ≡ Ok x → a ≡ Ok x
+judged_ok t {x} (Ok y) e = let q : y ≡ x = cc in ap Ok q
+judged_ok t (Err q) e = never cc
 
 -- What the theory is given -------------------------------------------------------------------------------------------------------------
 
@@ -65,17 +76,24 @@ module _ {theory goals proof : List ℕ} {T : TheoryLists} {B : Board} {n : Size
     stands : Stands (texts theory goals goals) T B n m (begin (theory_in theory))
     stands = theory_stands (verdict_formed theory) h p.short_goals t z.none z.mark s k
 
-    pub theory_left : {e : Refused} → a ≡ Err e → Opened theory goals proof T B n m (Err (record { text = text.Theory; refused = e }))
+    theory_stops : {e : Refused} → a ≡ Err e → Opened theory goals proof T B n m (Err (record { text = text.Theory; refused = e }))
     unfolding after_theory
-    theory_left f = stops stands refl refl (ap (after_theory goals proof) (sym (judged_refused a (verdict theory) j f)) ∙ p.is)
+    theory_stops f = stops stands refl refl (ap (after_theory goals proof) (sym (judged_refused a (verdict theory) j f)) ∙ p.is)
+
+    pub theory_left : {s : Stopped} → in_text text.Theory a ≡ Err s → Opened theory goals proof T B n m (Err s)
+    theory_left {s} f = go a refl f
+      where
+        go : (r : Result ℕ Refused) → a ≡ r → in_text text.Theory r ≡ Err s → Opened theory goals proof T B n m (Err s)
+        go (Ok x) i e = never cc
+        go (Err q) i e = let z : record { text = text.Theory; refused = q } ≡ s = cc in subst (λ (t : Stopped). Opened theory goals proof T B n m (Err t)) z (theory_stops i)
 
     pub goals_given : {w : List ℕ} → w ≡ replicate LENGTH 0 → Posing (texts theory goals goals) T B n m w
     goals_given e = record { text = refl; stands = stands; legible = legible p.short_goals e }
 
     -- what the definition says of the goals decides
-    pub goals_next : {i : ℕ} → a ≡ Ok i → after_goals proof (whole take_goal (read goals) (begin (theory_in theory))) ≡ check theory goals proof
+    pub goals_next : {i : ℕ} → in_text text.Theory a ≡ Ok i → after_goals proof (whole take_goal (read goals) (begin (theory_in theory))) ≡ check theory goals proof
     unfolding after_theory
-    goals_next f = ap (after_theory goals proof) (sym (judged_done a (verdict theory) j f)) ∙ p.is
+    goals_next f = ap (after_theory goals proof) (sym (judged_done a (verdict theory) j (judged_ok _ a f))) ∙ p.is
 
   -- The goals ------------------------------------------------------------------------------------------------------------------------
 
@@ -96,7 +114,7 @@ module _ {theory goals proof : List ℕ} {T : TheoryLists} {B : Board} {n : Size
       }
 
   -- a question is left in the goals
-  pub goals_left : (J : Judged State) {e : Refused} → Posed (texts theory goals goals) T B n m J (Err e) → after_goals proof J ≡ check theory goals proof →
+  goals_left : (J : Judged State) {e : Refused} → Posed (texts theory goals goals) T B n m J (Err e) → after_goals proof J ≡ check theory goals proof →
       Opened theory goals proof T B n m (Err (record { text = text.Goals; refused = e }))
   unfolding after_goals
   goals_left (refused q d k S) p e =
@@ -107,9 +125,14 @@ module _ {theory goals proof : List ℕ} {T : TheoryLists} {B : Board} {n : Size
       ∙ sym (ap (outcome_by proof k S) (eq-eqb (length S.goals) 0 (p.stands.goals.many ∙ p.is.0))) ∙ e)
 
   -- none is
-  pub goals_opened : (J : Judged State) → Posed (texts theory goals goals) T B n m J (Ok tt) → after_goals proof J ≡ check theory goals proof → length proof ≤ LENGTH →
+  goals_opened : (J : Judged State) → Posed (texts theory goals goals) T B n m J (Ok tt) → after_goals proof J ≡ check theory goals proof → length proof ≤ LENGTH →
       Opened theory goals proof T B n m (Ok tt)
   unfolding after_goals
   goals_opened (refused q d k S) p e l = absurd p.is
   goals_opened (done k S) p e l =
       starts p.stands p.fresh l (sym (ap (outcome_by proof k S) (ne_eqb (length S.goals) 0 (λ z. p.is (sym p.stands.goals.many ∙ z)))) ∙ e)
+
+  pub goals_end : (J : Judged State) (r : Result (Unit {0}) Refused) → Posed (texts theory goals goals) T B n m J r → after_goals proof J ≡ check theory goals proof →
+      length proof ≤ LENGTH → Opened theory goals proof T B n m (in_text text.Goals r)
+  goals_end J (Ok x) p e l = goals_opened J p e l
+  goals_end J (Err q) p e l = goals_left J p e

@@ -1,5 +1,5 @@
 -- The beginning over tables of their named lengths: what it is given, and where the check stands then. Assumes nothing.
-use Rattle.std.specs.Prelude.{◌≡◌, List, ℕ, ◌*◌, replicate, Result, Ok, Err}
+use Rattle.std.specs.Prelude.{◌≡◌, List, ℕ, ◌*◌, length, replicate, Result, Ok, Err}
 use Rattle.rules.specs.Limits.{LENGTH, VARIABLES, TERMS, WORDS, DEFS, GOALS, FACTS, ENTRIES}
 use Rattle.rules.specs.State.{State, no_counts}
 use Rattle.kernel.specs.Parsed.{TheoryLists, Exact}
@@ -16,11 +16,11 @@ no_board =
     board (replicate (4 * VARIABLES) 0) (replicate (4 * TERMS) 0) (replicate WORDS 0) (replicate (3 * DEFS) 0) (replicate (6 * GOALS) 0)
     (replicate (6 * FACTS) 0) (replicate (4 * FACTS) 0) (replicate ENTRIES 0)
 
--- the tables as they are lent: no fact is stored
+-- the tables as they are lent, of their named lengths
 pub record Lending (B : Board) : Type 0 where
   pub exact : ExactBoard B
-  pub facts_zero : B.facts ≡ replicate (6 * FACTS) 0
-  pub footings_zero : B.footings ≡ replicate (4 * FACTS) 0
+  pub facts : length B.facts ≡ 6 * FACTS
+  pub footings : length B.footings ≡ 4 * FACTS
 
 -- with those of the theory, and cells of zeros for the forms
 pub record Opening (T : TheoryLists) (B : Board) (cells : List ℕ) : Type 0 where

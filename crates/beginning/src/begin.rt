@@ -2,20 +2,22 @@
 ghost use Rattle.std.specs.Prelude.{◌≡◌};
 ghost use Rattle.kernel.specs.Tables.{lists_of, SameTables as SameTheory};
 ghost use Rattle.terms.specs.Lent.{SameTables};
+ghost use Rattle.state.specs.Boards.{SameBoard};
 ghost use Rattle.state.specs.Stands.{tables_of};
-ghost use Rattle.forms.specs.Boards.{SameBoard};
 ghost use Rattle.beginning.specs.Given.{given_of};
 ghost use Rattle.beginning.specs.Opened.{Opening, Opened};
 
 use crate::goals::pose;
-use crate::tables::{clear_board, clear_theory, theory_sizes};
-use crate::texts::{Texts, ask};
+use crate::tables::{clear_board, clear_theory};
+use crate::texts::ask;
 use kernel::parse::parse_exact;
 use kernel::rule_readers::Rules;
 use kernel::tables::Tables;
 use questions::Text;
 use running::stopped::Stopped;
+use running::texts::Texts;
 use state::board::{Board, Given};
+use state::sizes::Sizes;
 use terms::store::Store;
 
 // What the forms of a text are given.
@@ -61,19 +63,8 @@ pub fn begin(
         return Err(stopped);
     }
     let judged = parse_exact(texts.theory, cells, tables);
-    board.n = theory_sizes(tables.held);
-    if let Err(refused) = judged {
-        return Err(Stopped {
-            text: Text::Theory,
-            refused,
-        });
-    }
+    board.n = Sizes::from(tables.held);
+    judged.map_err(|refused| Stopped::left_in(Text::Theory, refused))?;
     let given = given_of(texts.theory, texts.goals, texts.goals, tables);
-    if let Err(refused) = pose(&given, board, store, cells) {
-        return Err(Stopped {
-            text: Text::Goals,
-            refused,
-        });
-    }
-    Ok(())
+    pose(&given, board, store, cells).map_err(|refused| Stopped::left_in(Text::Goals, refused))
 }

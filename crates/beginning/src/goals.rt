@@ -5,8 +5,9 @@ ghost use Rattle.rules.specs.State.{begin};
 ghost use Rattle.rules.specs.Forms.{take_goal};
 ghost use Rattle.rules.specs.Loop.{through, whole};
 ghost use Rattle.terms.specs.Lent.{SameTables};
+ghost use Rattle.state.specs.Boards.{SameBoard};
 ghost use Rattle.state.specs.Stands.{tables_of};
-ghost use Rattle.forms.specs.Boards.{texts_of, theory_of, SameBoard};
+ghost use Rattle.forms.specs.Boards.{texts_of, theory_of};
 ghost use Rattle.beginning.specs.Posed.{theory_in, Posing, Posed};
 
 use cells::clear;
@@ -33,6 +34,7 @@ fn take_goals(
     let mut at = 0;
     // From form to form, which is no count. A form is read into lent cells and taken into lent tables: a walker that is handed what to do with it would be
     // handed all of these and their contracts with it, and this loop, which says no more, would stand in it.
+    // Refusals are handed on by hand, not by `map_err`: a closure would have to say what it answers in a clause of its own.
     loop {
         let form = match read_form(given.goals, at, cells) {
             Ok(Some(form)) => form,

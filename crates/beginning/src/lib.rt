@@ -4,5 +4,6 @@
 
 pub mod begin;
 mod goals;
+pub mod lengths;
 pub mod tables;
 pub mod texts;

@@ -1,37 +1,38 @@
-// Question 1, by the lengths of the tables; the tables cleared; what a theory uses of them.
+// Question 1, by the lengths of the tables; the tables cleared.
 ghost use Rattle.std.specs.Prelude.{◌≡◌};
 ghost use Rattle.rules.specs.Theory.{no_theory};
 ghost use Rattle.kernel.specs.Parsed.{Exact, theory_tables};
 ghost use Rattle.kernel.specs.Tables.{lists_of, SameTables as SameTheory};
 ghost use Rattle.terms.specs.Lent.{SameTables};
+ghost use Rattle.state.specs.Boards.{SameBoard};
 ghost use Rattle.state.specs.Stands.{tables_of};
-ghost use Rattle.forms.specs.Boards.{SameBoard};
-ghost use Rattle.beginning.specs.Lengths.{FitsAll, Decides, theory_sizes};
+ghost use Rattle.beginning.specs.Lengths.{FitsAll, Decides};
 ghost use Rattle.beginning.specs.Opened.{Lending, Cleared};
 
+use crate::lengths;
 use cells::clear;
+use facts::zero_behind;
 use kernel::tables::{Counts, Tables};
 use sexp::lex;
 use state::board::Board;
 use state::sizes::Sizes;
 use terms::store::{Mark, Store};
 
-// As long as this, or longer: the tables of the theory; those of variables, the store's two, those of abbreviations, goals, entries; the list of 53;
-// the records of facts.
+// As long as this, or longer; and so many records of facts.
 const NAMED: [usize; 14] = [
-    2 * rules::SORTS,
-    4 * rules::SYMBOLS,
-    rules::ARGUMENTS * rules::SYMBOLS,
-    6 * rules::RULES,
-    3 * rules::RULEVARS * rules::RULES,
-    rules::PATTERNS,
-    4 * rules::VARIABLES,
-    4 * rules::TERMS,
-    rules::WORDS,
-    3 * rules::DEFS,
-    6 * rules::GOALS,
-    rules::ENTRIES,
-    rules::GOALS,
+    lengths::SORTS,
+    lengths::SYMBOLS,
+    lengths::INPUTS,
+    lengths::RULES,
+    lengths::RULEVARS,
+    lengths::PATTERNS,
+    lengths::VARS,
+    lengths::INDEX,
+    lengths::WORDS,
+    lengths::DEFS,
+    lengths::ROWS,
+    lengths::LISTS,
+    lengths::MISSING,
     rules::FACTS,
 ];
 
@@ -61,7 +62,7 @@ pub fn clear_theory(tables: &mut Tables<'_>)
     clear(tables.patterns);
 }
 
-// The tables of a check that has nothing but a theory; no fact is stored in them.
+// The tables of a check that has nothing but a theory.
 pub fn clear_board(board: &mut Board<'_>, store: &mut Store<'_>)
     requires { Lending (tables_of board.old store.old) }
     ensures same_tables { SameBoard board.old board.new × SameTables store.old store.new }
@@ -72,23 +73,8 @@ pub fn clear_board(board: &mut Board<'_>, store: &mut Store<'_>)
     clear(store.words);
     clear(board.defs);
     clear(board.rows);
+    zero_behind(board.facts, 0, rules::FACTS);
     clear(board.lists);
-    store.mark = Mark { terms: 0, words: 0 };
-    board.n = theory_sizes(Counts::NONE);
-}
-
-// What is used where there is nothing but a theory.
-pub fn theory_sizes(held: Counts) -> Sizes
-    ensures { result ≡ theory_sizes held }
-{
-    Sizes {
-        sorts: held.sorts,
-        symbols: held.symbols,
-        rules: held.rules,
-        vars: 0,
-        defs: 0,
-        goals: 0,
-        facts: 0,
-        entries: 0,
-    }
+    store.mark = Mark::NONE;
+    board.n = Sizes::from(Counts::NONE);
 }

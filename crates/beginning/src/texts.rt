@@ -1,19 +1,12 @@
-// The texts of a check, and questions 2 and 3, put to them in turn.
+// Questions 2 and 3, put to the texts of a check in turn.
 ghost use Rattle.std.specs.Prelude.{◌≡◌, Bool, List, ℕ};
 ghost use Rattle.rules.specs.Check.{first_failing};
 ghost use Rattle.beginning.specs.Asking.{number_in, left_in, AskedAs};
 
 use questions::{Question, Text};
 use running::stopped::Stopped;
+use running::texts::Texts;
 use sexp::lex::{plain, short};
-
-// The three texts.
-#[derive(Clone, Copy)]
-pub struct Texts<'a> {
-    pub theory: &'a [u8],
-    pub goals: &'a [u8],
-    pub proof: &'a [u8],
-}
 
 // The first text that fails the test.
 fn first_failing<F: Fn(&[u8]) -> bool>(texts: &Texts<'_>, passes: F) -> Option<Text>
@@ -37,10 +30,7 @@ fn first_failing<F: Fn(&[u8]) -> bool>(texts: &Texts<'_>, passes: F) -> Option<T
 fn left(text: Text, question: Question) -> Stopped
     ensures { result ≡ left_in text question }
 {
-    Stopped {
-        text,
-        refused: question.behind(0),
-    }
+    Stopped::left_in(text, question.behind(0))
 }
 
 // All texts are asked question 2 before any is asked question 3.

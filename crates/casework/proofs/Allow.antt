@@ -9,24 +9,19 @@ use lib.ListN.{length}
 use borrow.Author.Tests.{ne_eqb}
 use Rattle.rules.specs.Find.{union, has, any}
 use Rattle.rules.specs.Store.{Made}
-use Rattle.rules.specs.State.{State, is_none, is_empty}
+use Rattle.rules.specs.State.{State, is_empty}
 use Rattle.rules.specs.Invert.{Allowed, is_allowed}
 use Rattle.rules.specs.Laws.Theory.{empty, both}
 use Rattle.rules.specs.Laws.Set.{union_empty}
 use Rattle.rules.specs.Tree.{var}
-use Rattle.terms.specs.Table.{args_of}
 use Rattle.terms.specs.Sets.{holds, plus}
 use Rattle.terms.specs.Laws.Sets.{plus_has}
 use Rattle.referring.specs.Recall.{fact_of}
 use Rattle.casework.specs.Context.{allowed_of, plainly, plains_of, others_of, trees_of, Adds, one, MarkedAs}
 use lib.ListN.{get_or}
+use Rattle.terms.specs.Laws.Below.{none_args}
 
 -- Whether it is bare ---------------------------------------------------------------------------------------------------------------------------
-
-none_args : (M : Made) (ids : List ℕ) → is_none (args_of M ids) ≡ eqb (length ids) 0
-unfolding is_none args_of
-none_args M [] = refl
-none_args M (i ∷ ids) = sym (ne_eqb (suc (length ids)) 0 (λ e. omega (arith, e)))
 
 empty_list : (gs : List ℕ) → is_empty gs ≡ eqb (length gs) 0
 unfolding is_empty

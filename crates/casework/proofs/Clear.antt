@@ -35,7 +35,8 @@ use Rattle.state.specs.Rows.{general_span}
 use Rattle.referring.specs.Recall.{fact_of, Recalls}
 use Rattle.referring.specs.Referral.{Gathered}
 use Rattle.referring.specs.Derived.{cell_vars, ReadableCells}
-use Rattle.casework.specs.Context.{There, UnboundAs, ContextGiven, under}
+use Rattle.terms.specs.Table.{Below}
+use Rattle.casework.specs.Context.{UnboundAs, ContextGiven, under}
 use Rattle.casework.specs.Laws.Loops.{all_yes, all_no, all_over, not_so, not_not}
 use Rattle.casework.specs.Laws.Rows.{row, general_is}
 
@@ -184,7 +185,7 @@ module _ {facts lists : List ℕ} {n : Sizes} {I W : List ℕ} {m : Mark} (g : R
   general_now = e ∙ general_is g l
 
   -- variables, as `unbind` and `is_clear` ask for them
-  pub general_there : There VARIABLES vs
+  pub general_there : Below VARIABLES vs
   general_there i p =
       let q = all_at (fact_of g.S h).general i 0 (row g l).general_below (subst (λ (xs : List ℕ). i < length xs) general_now p) in
       let z : get_or vs i 0 ≡ get_or (fact_of g.S h).general i 0 = ap (λ (xs : List ℕ). get_or xs i 0) general_now in

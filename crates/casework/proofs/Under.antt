@@ -1,4 +1,5 @@
 -- A fact of the context under a substitution: its premises in turn, then its judgment, and what it allows. Assumes nothing.
+use Rattle.state.specs.Records.{fact_rows}
 use mathlib.Core.Path.{◌≡◌, sym, ap, ◌∙◌, subst}
 use mathlib.Core.List.{List}
 use Prim.Native.Nat.{ℕ, ◌-◌, ◌<◌, ◌≤◌}
@@ -22,7 +23,7 @@ use Rattle.state.specs.Rows.{cell, premises_span}
 use Rattle.referring.specs.Recall.{fact_of, Recalls}
 use Rattle.referring.specs.declared.source.Facts.{Facts}
 use Rattle.referring.specs.Substitutes.{Replaceables, Replaced}
-use Rattle.referring.specs.Laws.Substitutes.{below_grown}
+use Rattle.terms.specs.Laws.Below.{below_grown}
 use Rattle.casework.specs.declared.context.Allowing.{Allowing}
 use Rattle.casework.specs.Context.{allowed_of, Comparing, Adds, ContextRead, one, under, ContextGiven}
 use Rattle.casework.specs.Laws.Facts.{recalls_grown}
@@ -80,7 +81,7 @@ module _ {facts lists : List ℕ} {n : Sizes} {I W : List ℕ} {old : Mark} (g :
           }
 
 -- the facts beside what these made, and what one of them is then
-abbrev pub compared : {f : Facts} {I W J X Y Z : List ℕ} {old mid new : Mark} {K : Out Made Trees} (a : Allowing) → Recalls f.rows.now f.lists.now f.n I W old →
+abbrev pub compared : {f : Facts} {I W J X Y Z : List ℕ} {old mid new : Mark} {K : Out Made Trees} (a : Allowing) → Recalls (fact_rows f.records.now) f.lists.now f.n I W old →
     Replaced I W J X old K a.premises.now mid → Grown J X Y Z mid new → a.judgment < new.terms → Comparing f a
 compared {Y = Y} {Z} {new = new} a g r w j =
     record {

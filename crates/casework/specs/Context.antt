@@ -1,5 +1,6 @@
 -- What a case of `invert` may rest on, by numbers of terms: the allowed facts without premises and generalised variables are a set of their
 -- judgments, the others are compared with the facts that the case rests on, one by one. Assumes nothing.
+use Rattle.state.specs.Records.{fact_rows}
 use Rattle.std.specs.Prelude.{◌≡◌, Bool, true, false, ◌&&◌, List, [], ◌∷◌, ℕ, ◌<◌, ◌≤◌, length, get_or, replicate, Some as some, Result, Ok, Err}
 use Rattle.rules.specs.Limits.{TERMS}
 use Rattle.rules.specs.Out.{Out, Act, ◌>>=◌, pure}
@@ -12,7 +13,7 @@ use Rattle.rules.specs.Invert.{Allowed, is_allowed, renaming}
 use Rattle.rules.specs.Laws.Theory.{All}
 use Rattle.rules.specs.Laws.Store.{Apart}
 use Rattle.terms.specs.declared.store.Mark.{Mark}
-use Rattle.terms.specs.Table.{made, args_of, Good}
+use Rattle.terms.specs.Table.{made, args_of, Below, Good}
 use Rattle.terms.specs.Sets.{holds, plus}
 use Rattle.terms.specs.Theta.{Theta}
 use Rattle.terms.specs.Patterns.{bound_of, Cells}
@@ -35,10 +36,6 @@ use Rattle.casework.specs.declared.context.Renamed.{Renamed}
 abbrev pub IDS : ℕ
 IDS = 40960
 
--- numbers below k
-abbrev pub There : ℕ → List ℕ → Type 0
-There k xs = (i : ℕ) → i < length xs → get_or xs i 0 < k
-
 -- Allowed facts by numbers -----------------------------------------------------------------------------------------------------------
 
 abbrev pub allowed_of : Made → List ℕ → ℕ → List ℕ → Allowed
@@ -52,9 +49,9 @@ pub record Comparing (f : Facts) (a : Allowing) : Type 0 where
   pub index : List ℕ
   pub words : List ℕ
   pub mark : Mark
-  pub recalls : Recalls f.rows.now f.lists.now f.n index words mark
+  pub recalls : Recalls (fact_rows f.records.now) f.lists.now f.n index words mark
   pub judgment : a.judgment < mark.terms
-  pub premises : There mark.terms a.premises.now
+  pub premises : Below mark.terms a.premises.now
 
 -- without premises and generalised variables
 unfoldable pub plainly : Allowed → Bool
@@ -129,10 +126,10 @@ pub record ContextGiven (facts lists : List ℕ) (n : Sizes) (I W : List ℕ) (m
   pub recalls : Recalls facts lists n I W m
   pub cells : Theta m map
   pub empty : memo ≡ replicate TERMS 0
-  pub known : There n.facts own
+  pub known : Below n.facts own
 
 abbrev pub ContextIn : Facts → Store → List ℕ → List ℕ → Grounds → Type 0
-ContextIn f s map memo g = ContextGiven f.rows.now f.lists.now f.n s.index.now s.words.now s.mark map memo g.own.now
+ContextIn f s map memo g = ContextGiven (fact_rows f.records.now) f.lists.now f.n s.index.now s.words.now s.mark map memo g.own.now
 
 -- h joined the set where the test says so
 abbrev pub OneMarked : Bool → ℕ → List ℕ → List ℕ → Type 0
@@ -158,7 +155,7 @@ pub record RestsGiven (facts : List ℕ) (n : Sizes) : Type 0 where
   pub few : length trees ≤ TERMS
 
 abbrev pub RestsIn : Facts → Type 0
-RestsIn f = RestsGiven f.rows.now f.n
+RestsIn f = RestsGiven (fact_rows f.records.now) f.n
 
 -- whether the case may rest on fact h, by the sets
 unfoldable pub rests_by : Made → Fact → ℕ → Set → Set → Bool

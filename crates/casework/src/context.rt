@@ -1,5 +1,6 @@
 // What a case of `invert` may rest on: the rule's premises and the facts of the context, under the unifier. Those without premises and generalised
 // variables are a set of terms; each other one is compared with the facts that the case rests on (question 44), which come into a set.
+ghost use Rattle.state.specs.Records.{fact_rows};
 ghost use Rattle.std.specs.Prelude.{◌≡◌, List, ℕ, ◌<◌, length, replicate};
 ghost use Rattle.rules.specs.Limits.{VARIABLES, TERMS, TERMWORDS, FACTWORDS};
 ghost use Rattle.rules.specs.Find.{all};
@@ -17,7 +18,8 @@ ghost use Rattle.state.specs.Entries.{part};
 ghost use Rattle.state.specs.Rows.{premises_span};
 ghost use Rattle.referring.specs.Recall.{fact_of};
 ghost use Rattle.referring.specs.Sources.{RecallsIn};
-ghost use Rattle.casework.specs.Context.{IDS, There, Comparing, allowed_as, plainly, Adds, ContextAs, UnderAs, one, all_of, under, ContextIn, MarkedAs, OneMarked, UnboundAs, RestsIn, rests_by, RenamedIn, PremisesAs};
+ghost use Rattle.terms.specs.Table.{Below};
+ghost use Rattle.casework.specs.Context.{IDS, Comparing, allowed_as, plainly, Adds, ContextAs, UnderAs, one, all_of, under, ContextIn, MarkedAs, OneMarked, UnboundAs, RestsIn, rests_by, RenamedIn, PremisesAs};
 
 use cells::clear;
 use kernel::rule_readers::Rules;
@@ -26,8 +28,7 @@ use referring::scope::visit_cells;
 use referring::source::Facts;
 use referring::substitutes::substitute_all;
 use rules::{FACTWORDS, TERMWORDS, VARIABLES, VARIABLEWORDS};
-use state::facts::{is_assumed, is_plain, judgment};
-use terms::patterns::Patterns;
+use state::recorded::{is_assumed, is_plain, judgment};
 use terms::sets::{has, insert};
 use terms::store::{Store, Terms};
 use terms::substitute::substitute;
@@ -74,7 +75,7 @@ fn is_row(facts: &Facts<'_>, h: usize, allowing: &Allowing<'_>) -> bool
     requires { Comparing facts.now allowing.now × (h < facts.now.n.facts) }
     ensures { (g : Comparing facts.now allowing.now) → result ≡ is_allowed (fact_of g.recalls.S h) (allowed_as (made g.index g.words g.mark) allowing.now) }
 {
-    if judgment(facts.rows, h) != allowing.judgment {
+    if judgment(facts.records, h) != allowing.judgment {
         return false;
     }
     allowing.premises == facts.premises(h) && allowing.general == facts.general(h)
@@ -93,7 +94,7 @@ fn mark_one(facts: &Facts<'_>, h: usize, allowing: &Allowing<'_>, fine: &mut [u6
 
 // Those of the facts `own` that have that judgment, those premises and generalised variables join the set.
 fn mark_rests(facts: &Facts<'_>, own: &[u32], allowing: &Allowing<'_>, fine: &mut [u64])
-    requires { Comparing facts.now allowing.now × There facts.now.n.facts own.now × (length fine.old ≡ FACTWORDS) }
+    requires { Comparing facts.now allowing.now × Below facts.now.n.facts own.now × (length fine.old ≡ FACTWORDS) }
     ensures { (g : Comparing facts.now allowing.now) →
         MarkedAs g.recalls.S own.now (allowed_as (made g.index g.words g.mark) allowing.now) fine.old fine.new }
 {
@@ -111,7 +112,7 @@ fn is_bare(allowing: &Allowing<'_>) -> bool
 
 // What a fact of the context allows joins the sets.
 fn allow<'a>(facts: &Facts<'_>, allowing: &Allowing<'_>, grounds: Grounds<'a>) -> Grounds<'a>
-    requires { Comparing facts.now allowing.now × There facts.now.n.facts grounds.own.now }
+    requires { Comparing facts.now allowing.now × Below facts.now.n.facts grounds.own.now }
     ensures adds { (g : Comparing facts.now allowing.now) →
         Adds (made g.index g.words g.mark) g.recalls.S grounds.entry.own.now grounds.entry.plain result.plain grounds.entry.fine result.fine (one (allowed_as (made g.index g.words g.mark) allowing.now)) }
     ensures own { result.own ≡ grounds.entry.own }
@@ -136,14 +137,14 @@ fn fact_under<'a>(
     ids: &mut [u32],
     grounds: Grounds<'a>,
 ) -> Result<Grounds<'a>, Row>
-    requires { ContextIn facts.now store.old map.now memo.old grounds × (h < facts.now.n.facts) × (length ids.old ≡ length (part facts.now.lists.now (premises_span facts.now.rows.now h))) }
+    requires { ContextIn facts.now store.old map.now memo.old grounds × (h < facts.now.n.facts) × (length ids.old ≡ length (part facts.now.lists.now (premises_span (fact_rows facts.now.records.now) h))) }
     ensures same_tables { SameTables store.old store.new }
     ensures under_as { (g : RecallsIn facts.now (terms_of store.old)) →
         UnderAs Allowed store.old store.new g.S (under (replacement (made_of store.old) map.now) (fact_of g.S h) (made_of store.old)) one grounds.entry result }
     ensures memo_unchanged { memo.new ≡ memo.old }
 {
     substitute_all(store, map, memo, facts.premises(h), ids)?;
-    let judgment = substitute(store, map, memo, judgment(facts.rows, h))?;
+    let judgment = substitute(store, map, memo, judgment(facts.records, h))?;
     let allowing = Allowing {
         judgment,
         premises: ids,
@@ -176,7 +177,7 @@ fn context_under<'a>(
 
 // The cells of these variables become zero.
 fn unbind(variables: &[u32], map: &mut [u32])
-    requires { There (length map.old) variables.now }
+    requires { Below (length map.old) variables.now }
     ensures { UnboundAs variables.now map.old map.new }
 {
     for v in variables {
@@ -186,7 +187,7 @@ fn unbind(variables: &[u32], map: &mut [u32])
 
 // Question 48: whether no value of the map has one of the variables.
 fn is_clear(terms: &Terms<'_>, map: &[u32], variables: &[u32]) -> bool
-    requires { GoodTerms terms.now × Theta terms.now.mark map.now × There VARIABLES variables.now }
+    requires { GoodTerms terms.now × Theta terms.now.mark map.now × Below VARIABLES variables.now }
     ensures { result ≡ clear variables.now (bindings (terms_made terms.now) map.now 0) }
 {
     let mut seen = [0u64; TERMWORDS];
@@ -239,7 +240,7 @@ pub fn context_facts<'a>(
     ids: &mut [u32],
     grounds: Grounds<'a>,
 ) -> Result<Grounds<'a>, Question>
-    requires { ContextIn facts.now store.old theta.now memo.old grounds × There facts.now.n.facts context.now × (ids.old ≡ replicate IDS 0) }
+    requires { ContextIn facts.now store.old theta.now memo.old grounds × Below facts.now.n.facts context.now × (ids.old ≡ replicate IDS 0) }
     ensures same_tables { SameTables store.old store.new }
     ensures context_as { (g : RecallsIn facts.now (terms_of store.old)) →
         ContextAs (List Allowed) store.old store.new g.S (context_facts g.S (bindings (made_of store.old) theta.now 0) context.now (made_of store.old)) all_of grounds.entry result }
@@ -253,9 +254,9 @@ pub fn context_facts<'a>(
 }
 
 // The premises of a rule, renamed and then under the unifier, each in turn: they join the set of terms. `memo` is scratch: zero before and after.
-pub fn rule_premises<'a>(
-    rules: &Rules<'_>,
-    symbols: &[u32],
+pub fn rule_premises<'a, 't>(
+    rules: &Rules<'t>,
+    symbols: &'t [u32],
     store: &mut Store<'_>,
     renamed: &Renamed<'_>,
     memo: &mut [u32],
@@ -268,14 +269,10 @@ pub fn rule_premises<'a>(
         (rule_premises (renaming g.xs) (along (bindings (made_of store.old) renamed.now.theta.now 0)) (rule g.T renamed.now.rule).premises (made_of store.old)) grounds.entry result }
     ensures memo_unchanged { memo.new ≡ memo.old }
 {
-    let patterns = Patterns {
-        symbols,
-        words: rules.patterns,
-    };
     let mut place = rules.words(renamed.rule).from;
     let mut more = grounds;
     for _ in 0..rules.premises(renamed.rule) {
-        let premise = patterns.build(store, renamed.bound, place)?;
+        let premise = rules.patterns(symbols).build(store, renamed.bound, place)?;
         let t = substitute(store, renamed.theta, memo, premise.term)?;
         insert(&mut more.plain, t);
         place = premise.end;
@@ -288,15 +285,15 @@ fn rests_on(facts: &Facts<'_>, h: usize, grounds: &Grounds<'_>) -> bool
     requires { RestsIn facts.now × (h < facts.now.n.facts) }
     ensures { (g : RestsIn facts.now) → result ≡ rests_by g.trees (fact_of g.S h) h (holds grounds.now.plain) (holds grounds.now.fine) }
 {
-    if is_plain(facts.rows, h) {
-        return has(&grounds.plain, judgment(facts.rows, h));
+    if is_plain(facts.records, h) {
+        return has(&grounds.plain, judgment(facts.records, h));
     }
-    is_assumed(facts.rows, h) && has(&grounds.fine, h)
+    is_assumed(facts.records, h) && has(&grounds.fine, h)
 }
 
 // Question 44: whether the case may rest on all that it rests on.
 pub fn rests_on_all(facts: &Facts<'_>, grounds: &Grounds<'_>) -> bool
-    requires { RestsIn facts.now × There facts.now.n.facts grounds.now.own.now }
+    requires { RestsIn facts.now × Below facts.now.n.facts grounds.now.own.now }
     ensures { (g : RestsIn facts.now) → result ≡ all (λ h. rests_by g.trees (fact_of g.S h) h (holds grounds.now.plain) (holds grounds.now.fine)) grounds.now.own.now }
 {
     for h in grounds.own {

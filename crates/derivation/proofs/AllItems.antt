@@ -10,8 +10,7 @@ use Rattle.rules.specs.Theory.{rule}
 use Rattle.rules.specs.State.{State}
 use Rattle.rules.specs.Step.{Items, no_items, read_item, read_items}
 use Rattle.sexp.specs.Items.{item_at, behind}
-use Rattle.sexp.specs.ItemLaws.{More}
-use Rattle.sexp.specs.WalkLaws.{Walk, walk_start, walk_more, walk_over, walk_rest}
+use Rattle.sexp.specs.WalkLaws.{Walk, walk_start, walk_over}
 use Rattle.terms.specs.declared.store.Mark.{Mark}
 use Rattle.terms.specs.Table.{made}
 use Rattle.terms.specs.On.{On, Stopped, on_start, on_is, on_ok, on_no, on_done}
@@ -22,6 +21,7 @@ use Rattle.referring.specs.Derived.{RuleItems, ItemsRead}
 use Rattle.derivation.specs.ItemsOf.{ItemsHeld, RuleItem}
 use Rattle.derivation.specs.Laws.ItemsOf.{held_none, items_read, read_held, reads_read_item}
 use Rattle.reading.specs.Laws.Walks.{walk_next}
+use Rattle.reading.specs.Laws.Walks.{Here, here}
 
 -- zs are left in the cells from a place on
 pub record ItemsLeft (K : Names) (n : Sizes) (I W : List ℕ) (old : Mark) (r : ℕ) (cells : List ℕ) (S : State) (xs : Sexps) (J X : List ℕ) (now : Mark)
@@ -61,14 +61,11 @@ module _ {K : Names} {n : Sizes} {I W : List ℕ} {old : Mark} {r : ℕ} {cells 
   -- One item ---------------------------------------------------------------------------------------------------------------------------
 
   module _ (t : at < length cells) where
-    pub one : More l.zs
-    one = walk_more l.walk t
-
-    pub one_walk : Walk K.text cells at (cons one.first one.others)
-    one_walk = subst (λ (z : Sexps). Walk K.text cells at z) one.is l.walk
+    pub one : Here K.text cells at l.zs
+    one = here l.walk t
 
     on_one : On I W old (read_items S (rule S.theory r) xs no_items (made I W old)) J X now
-        (read_items S (rule S.theory r) (cons one.first one.others) l.it (made J X now))
+        (read_items S (rule S.theory r) (cons one.x one.ys) l.it (made J X now))
     on_one = on_is l.on (ap (λ (z : Sexps). read_items S (rule S.theory r) z l.it (made J X now)) one.is)
 
     module _ {rules rulevars patterns : List ℕ} (ruled : Ruled (rule_lists K.theory rules rulevars patterns) n S.theory) (known : r < n.rules) where
@@ -78,13 +75,13 @@ module _ {K : Names} {n : Sizes} {I W : List ℕ} {old : Mark} {r : ℕ} {cells 
             S = S;
             patterns = patterns;
             it = l.it;
-            x = one.first;
-            ys = one.others;
+            x = one.x;
+            ys = one.ys;
             reads = l.reads;
             ruled = ruled;
             known = known;
             so_far = l.held;
-            holds = walk_rest one_walk;
+            holds = one.holds;
           }
 
       -- what reading the item answers
@@ -97,21 +94,21 @@ module _ {K : Names} {n : Sizes} {I W : List ℕ} {old : Mark} {r : ℕ} {cells 
 
         module _ {B : List ℕ} {s : ℕ} (p : (h : RuleItem K rules rulevars n J X now r (take (length cells - at) (drop at cells)) bound stated) →
             ItemsRead J X Y Z now (read_item h.S (rule h.S.theory r) h.x h.it (made J X now)) B s new) where
-          one_read : ItemsRead J X Y Z now (read_item S (rule S.theory r) one.first l.it (made J X now)) B s new
+          one_read : ItemsRead J X Y Z now (read_item S (rule S.theory r) one.x l.it (made J X now)) B s new
           one_read = p left_given
 
           on_more : On I W old (read_items S (rule S.theory r) xs no_items (made I W old)) Y Z new
-              (read_items S (rule S.theory r) one.others one_read.items (made Y Z new))
+              (read_items S (rule S.theory r) one.ys one_read.items (made Y Z new))
           unfolding read_items
           on_more = on_ok _ on_one one_read.went
 
           pub left_again : {next : ℕ} → next ≡ behind at (item_at cells at) → ItemsLeft K n I W old r cells S xs Y Z new B s next
           left_again f =
               record {
-                zs = one.others;
+                zs = one.ys;
                 it = one_read.items;
-                walk = walk_next one_walk f;
-                reads = reads_read_item l.reads (rule S.theory r) one.first l.it one_read.went;
+                walk = walk_next one.walk f;
+                reads = reads_read_item l.reads (rule S.theory r) one.x l.it one_read.went;
                 on = on_more;
                 held = read_held one_read;
               }

@@ -4,9 +4,9 @@ use mathlib.Core.Path.{◌≡◌, refl, sym, ap, ◌∙◌, subst}
 use mathlib.Core.Bool.{Bool, true, false, false≢true}
 use mathlib.Core.Logic.{⊎_elim}
 use mathlib.Core.List.{List}
-use Prim.Native.Nat.{ℕ, suc, ◌+◌, ◌<◌}
+use Prim.Native.Nat.{ℕ, ◌+◌, ◌<◌}
 use native.Mathlib.Omega.{arith}
-use lib.ListN.{length, replicate, length-replicate}
+use lib.ListN.{length, replicate}
 use Rattle.rules.specs.Limits.{VARIABLEWORDS, FACTWORDS, RULEWORDS, TERMWORDS}
 use Rattle.rules.specs.Out.{Out, ok, refuse, then, ask}
 use Rattle.rules.specs.Find.{Set, empty, union}
@@ -131,9 +131,6 @@ pub record Left (K : Names) (facts footings lists : List ℕ) (n : Sizes) (I W :
   pub known : Under (length S.theory.rules) (holds footing)
   pub visits : Seen J X now (holds seen) (holds used)
 
-pub blank_long : (k : ℕ) (s : List ℕ) → s ≡ replicate k 0 → length s ≡ k
-blank_long k s e = ap length e ∙ length-replicate {A = ℕ} k 0
-
 -- nothing is met yet
 module _ {K : Names} {facts footings lists : List ℕ} {n : Sizes} {I W : List ℕ} {m : Mark} {i : ℕ} {cells bound used : List ℕ} (u : used ≡ replicate VARIABLEWORDS 0)
     (g : RuleUse K facts footings lists n I W m i cells bound) where
@@ -158,7 +155,3 @@ module _ {K : Names} {facts footings lists : List ℕ} {n : Sizes} {I W : List �
         known = under_zero RULEWORDS _ _ refl;
         visits = seen_none I W m (holds used) (replicate TERMWORDS 0) refl;
       }
-
-pub count_more : (x : Sexp) (xs zs : Sexps) → zs ≡ cons x xs → count zs ≡ suc (count xs)
-unfolding count
-count_more x xs zs e = ap count e

@@ -49,20 +49,9 @@ use Rattle.derivation.specs.ItemsOf.{ItemsHeld, RuleItem, ItemBy}
 use Rattle.derivation.specs.Laws.ItemsOf.{with_bound, held_grown, held_new, held_unstated, held_bound, held_stated, items_read}
 use Rattle.questions.specs.declared.Question.{Question}
 use Rattle.derivation.specs.declared.items.Said.{Said}
+use Rattle.std.proofs.lemmas.Bool.{and_parts}
 
 -- Whether it is a binding ------------------------------------------------------------------------------------------------------------
-
-pub binds_yes : (a : Bool) (n : ℕ) (xs : Sexps) → a ≡ true → n ≡ count xs → eqb n 2 ≡ a && eqb (count xs) 2
-binds_yes true n xs e f = ap (λ (k : ℕ). eqb k 2) f
-binds_yes false n xs e f = absurd (let z : ◌≡◌ {A = ℕ} 0 1 = cc in omega arith)
-
-pub binds_no : (a b : Bool) → a ≡ false → false ≡ a && b
-binds_no false b e = refl
-binds_no true b e = absurd (let z : ◌≡◌ {A = ℕ} 0 1 = cc in omega arith)
-
-and_right : (a b : Bool) → a && b ≡ true → b ≡ true
-and_right true b e = e
-and_right false b e = absurd (let z : ◌≡◌ {A = ℕ} 0 1 = cc in omega arith)
 
 -- A binding --------------------------------------------------------------------------------------------------------------------------
 
@@ -289,7 +278,7 @@ module _ {K : Names} {rules rulevars : List ℕ} {n : Sizes} {I W : List ℕ} {m
             module _ (yes : y ≡ true) where
               pub one_more_lem : More item_named.others
               one_more_lem = second (atom p (letters (drop p K.text))) item_named.others
-                  (eqb-true (count all) 2 (and_right (marked (letters (drop p K.text))) (eqb (count all) 2) (sym says ∙ yes)))
+                  (eqb-true (count all) 2 (and_parts (marked (letters (drop p K.text))) (eqb (count all) 2) (sym says ∙ yes)).1)
 
               abbrev pub item_given : RuleItem K rules rulevars n I W m r
                   (take (length (take (b - a) (drop a cells)) - 1) (drop 1 (take (b - a) (drop a cells)))) bound stated

@@ -1,5 +1,5 @@
 -- One turn of the loop over the premises of a rule: the reference of one more is read, and what it brings joins the sets. Assumes nothing.
-use mathlib.Core.Path.{◌≡◌, sym, ap, ◌∙◌, subst}
+use mathlib.Core.Path.{◌≡◌, sym, ap, ◌∙◌}
 use mathlib.Core.Bool.{Bool}
 use mathlib.Core.List.{List}
 use Prim.Native.Nat.{ℕ, suc, ◌+◌, ◌-◌, ◌<◌, ◌≤◌}
@@ -21,8 +21,7 @@ use Rattle.rules.specs.Laws.Set.{union_empty}
 use Rattle.rules.specs.Laws.Rising.{has_all}
 use Rattle.rules.specs.Laws.Tree.{variables_more}
 use Rattle.sexp.specs.Items.{item_at, behind}
-use Rattle.sexp.specs.ItemLaws.{More}
-use Rattle.sexp.specs.WalkLaws.{Walk, walk_more, walk_over, walk_rest}
+use Rattle.sexp.specs.WalkLaws.{walk_over}
 use Rattle.terms.specs.declared.store.Mark.{Mark}
 use Rattle.terms.specs.Table.{made, tree}
 use Rattle.terms.specs.Sets.{holds}
@@ -40,9 +39,10 @@ use Rattle.referring.specs.Recall.{fact_of, RecallsFact, Refers, RefersItem}
 use Rattle.referring.specs.Referral.{rests_on, ref_of, RefRead}
 use Rattle.derivation.specs.Applying.{RuleFact, premise_numbers, met_by, Discharged}
 use Rattle.referring.specs.Laws.Refers.{refers_ready, refers_went}
-use Rattle.reading.specs.Laws.Walks.{walk_next}
+use Rattle.reading.specs.Laws.Walks.{Here, here, walk_next}
 use Rattle.derivation.proofs.RulePremises.{premises_numbered, drop_trees, premise_below, premise_next}
-use Rattle.derivation.proofs.Discharging.{and_others, discharge_more, met_keeps, under_union, union_more, rests_all, premises_of, Left, count_more}
+use Rattle.derivation.proofs.Discharging.{and_others, discharge_more, met_keeps, under_union, union_more, rests_all, premises_of, Left}
+use Rattle.sexp.specs.FirstItem.{count_more}
 
 -- the number of premise k, where it is counted so
 pub premise_at : (ns : List ℕ) {p j k : ℕ} → p ≡ get_or ns j 0 → j ≡ k → p ≡ get_or ns k 0
@@ -72,14 +72,11 @@ module _ {K : Names} {facts footings lists : List ℕ} {n : Sizes} {I W : List �
   -- One premise ------------------------------------------------------------------------------------------------------------------------
 
   module _ (t : at < length cells) where
-    pub one : More l.zs
-    one = walk_more l.walk t
-
-    pub one_walk : Walk K.text cells at (cons one.first one.others)
-    one_walk = subst (λ (z : Sexps). Walk K.text cells at z) one.is l.walk
+    pub one : Here K.text cells at l.zs
+    one = here l.walk t
 
     pub left_inside : k < length (premise_numbers facts lists i)
-    left_inside = omega (arith, l.many, count_more one.first one.others l.zs one.is)
+    left_inside = omega (arith, l.many, count_more one.x one.ys l.zs one.is)
 
     abbrev pub left_rule : RuleFact facts lists i
     left_rule = record { S = S; n = n; trees = made J X now; footings = footings; recorded = l.refers.recorded; there = l.there }
@@ -88,7 +85,7 @@ module _ {K : Names} {facts footings lists : List ℕ} {n : Sizes} {I W : List �
     left_numbered = premises_numbered l.refers.recorded l.there
 
     abbrev pub left_given : RefersItem K facts n J X now (take (length cells - at) (drop at cells))
-    left_given = record { S = S; footings = footings; lists = lists; x = one.first; ys = one.others; refers = l.refers; holds = walk_rest one_walk }
+    left_given = record { S = S; footings = footings; lists = lists; x = one.x; ys = one.ys; refers = l.refers; holds = one.holds }
 
     pub left_theta : Theta now bound
     left_theta = theta_grown l.on.grown l.theta
@@ -100,24 +97,24 @@ module _ {K : Names} {facts footings lists : List ℕ} {n : Sizes} {I W : List �
 
       -- behind its reference
       abbrev others : Ref → Made → Out Made Refs
-      others r U = then (and_others S (bindings (made I W old) bound 0) one.others (drop_trees (suc k) (premises_of S i)) r U) (λ rs T. ok (l.whole rs) T)
+      others r U = then (and_others S (bindings (made I W old) bound 0) one.ys (drop_trees (suc k) (premises_of S i)) r U) (λ rs T. ok (l.whole rs) T)
 
       one_is : then (discharge S (bindings (made I W old) bound 0) l.zs (drop_trees k (premises_of S i)) (made J X now)) (λ rs U. ok (l.whole rs) U)
-          ≡ then (met_by S (bindings (made J X now) bound 0) (tree J X now p) one.first (made J X now)) others
+          ≡ then (met_by S (bindings (made J X now) bound 0) (tree J X now p) one.x (made J X now)) others
       one_is =
           ap (λ (z : Sexps). then (discharge S (bindings (made I W old) bound 0) z (drop_trees k (premises_of S i)) (made J X now)) (λ rs U. ok (l.whole rs) U)) one.is
-          ∙ ap (λ (q : Trees). then (discharge S (bindings (made I W old) bound 0) (cons one.first one.others) q (made J X now)) (λ rs U. ok (l.whole rs) U))
+          ∙ ap (λ (q : Trees). then (discharge S (bindings (made I W old) bound 0) (cons one.x one.ys) q (made J X now)) (λ rs U. ok (l.whole rs) U))
           (premise_next left_numbered left_inside)
           ∙ ap (λ (o : Out Made Refs). then o (λ rs U. ok (l.whole rs) U))
-          (discharge_more S (bindings (made I W old) bound 0) one.first one.others (tree J X now (get_or (premise_numbers facts lists i) k 0))
+          (discharge_more S (bindings (made I W old) bound 0) one.x one.ys (tree J X now (get_or (premise_numbers facts lists i) k 0))
           (drop_trees (suc k) (premises_of S i)) (made J X now))
-          ∙ then_then (met_by S (bindings (made I W old) bound 0) (tree J X now (get_or (premise_numbers facts lists i) k 0)) one.first (made J X now))
-          (and_others S (bindings (made I W old) bound 0) one.others (drop_trees (suc k) (premises_of S i))) (λ rs T. ok (l.whole rs) T)
-          ∙ ap (λ (bs : List Binding). then (met_by S bs (tree J X now (get_or (premise_numbers facts lists i) k 0)) one.first (made J X now)) others)
+          ∙ then_then (met_by S (bindings (made I W old) bound 0) (tree J X now (get_or (premise_numbers facts lists i) k 0)) one.x (made J X now))
+          (and_others S (bindings (made I W old) bound 0) one.ys (drop_trees (suc k) (premises_of S i))) (λ rs T. ok (l.whole rs) T)
+          ∙ ap (λ (bs : List Binding). then (met_by S bs (tree J X now (get_or (premise_numbers facts lists i) k 0)) one.x (made J X now)) others)
           (sym (bindings_grown l.on.grown l.theta))
-          ∙ ap (λ (j : ℕ). then (met_by S (bindings (made J X now) bound 0) (tree J X now j) one.first (made J X now)) others) (sym e)
+          ∙ ap (λ (j : ℕ). then (met_by S (bindings (made J X now) bound 0) (tree J X now j) one.x (made J X now)) others) (sym e)
 
-      on_one : On I W old left_all J X now (then (met_by S (bindings (made J X now) bound 0) (tree J X now p) one.first (made J X now)) others)
+      on_one : On I W old left_all J X now (then (met_by S (bindings (made J X now) bound 0) (tree J X now p) one.x (made J X now)) others)
       on_one = on_is l.on one_is
 
       -- what `met` answers
@@ -129,13 +126,13 @@ module _ {K : Names} {facts footings lists : List ℕ} {n : Sizes} {I W : List �
 
         module _ {j f : ℕ} {bare : Bool} (q : (h : RefersItem K facts n J X now (take (length cells - at) (drop at cells))) →
             RefRead J X Y Z now h.S (met_by h.S (bindings (made J X now) bound 0) (tree J X now p) h.x (made J X now)) j f bare new) where
-          left_read : RefRead J X Y Z now S (met_by S (bindings (made J X now) bound 0) (tree J X now p) one.first (made J X now)) j f bare new
+          left_read : RefRead J X Y Z now S (met_by S (bindings (made J X now) bound 0) (tree J X now p) one.x (made J X now)) j f bare new
           left_read = q left_given
 
           pub left_refers : Refers K facts footings lists n Y Z new S
           left_refers =
               refers_went l.refers
-              (met_keeps S (bindings (made J X now) bound 0) (tree J X now p) one.first (made J X now) (refers_ready l.refers)) left_read.went
+              (met_keeps S (bindings (made J X now) bound 0) (tree J X now p) one.x (made J X now) (refers_ready l.refers)) left_read.went
 
           pub early : f < n.facts
           early = omega (arith, left_read.earlier, l.refers.recorded.many)
@@ -161,25 +158,25 @@ module _ {K : Names} {facts footings lists : List ℕ} {n : Sizes} {I W : List �
             this = ref_of S (tree Y Z new j) f bare
 
             on_next : On I W old left_all Y Z new
-                (then (discharge S (bindings (made I W old) bound 0) one.others (drop_trees (k + 1) (premises_of S i)) (made Y Z new)) (λ rs T. ok (l.whole (with_ref this rs)) T))
+                (then (discharge S (bindings (made I W old) bound 0) one.ys (drop_trees (k + 1) (premises_of S i)) (made Y Z new)) (λ rs T. ok (l.whole (with_ref this rs)) T))
             unfolding then
             on_next =
                 on_is (on_ok _ on_one left_read.went)
-                (then_then (discharge S (bindings (made I W old) bound 0) one.others (drop_trees (suc k) (premises_of S i)) (made Y Z new))
+                (then_then (discharge S (bindings (made I W old) bound 0) one.ys (drop_trees (suc k) (premises_of S i)) (made Y Z new))
                 (λ rs T. ok (with_ref this rs) T) (λ rs T. ok (l.whole rs) T)
-                ∙ ap (λ (h : ℕ). then (discharge S (bindings (made I W old) bound 0) one.others (drop_trees h (premises_of S i)) (made Y Z new)) (λ rs T. ok (l.whole (with_ref this rs)) T))
+                ∙ ap (λ (h : ℕ). then (discharge S (bindings (made I W old) bound 0) one.ys (drop_trees h (premises_of S i)) (made Y Z new)) (λ rs T. ok (l.whole (with_ref this rs)) T))
                 (sym (add-one k)))
 
             pub left_again : {next : ℕ} → next ≡ behind at (item_at cells at) →
                 Left K facts footings lists n I W old i cells bound S xs Y Z new hyps' footing' used' seen' (k + 1) next
             left_again b =
                 record {
-                  zs = one.others;
-                  walk = walk_next one_walk b;
+                  zs = one.ys;
+                  walk = walk_next one.walk b;
                   refers = left_refers;
                   there = l.there;
                   theta = l.theta;
-                  many = omega (arith, l.many, count_more one.first one.others l.zs one.is);
+                  many = omega (arith, l.many, count_more one.x one.ys l.zs one.is);
                   whole = λ rs. l.whole (with_ref this rs);
                   on = on_next;
                   rests = λ rs. l.rests (with_ref this rs) ∙ union_more (holds hyps) (has (rests_on S f bare)) rs.hyps (holds hyps') a.0;

@@ -28,20 +28,20 @@ use Rattle.state.specs.Rows.{cell, hyps_span, premises_span}
 use Rattle.state.specs.Entries.{part}
 use Rattle.state.specs.Numbered.{AllNumbered}
 use Rattle.state.specs.FactLaws.{FactRow, fact_row_lem, lists_long}
-use Rattle.referring.specs.Recall.{fact_of}
+use Rattle.referring.specs.Recall.{fact_of, judgment_cells}
 use Rattle.referring.specs.Laws.Refers.{fact_asks}
-use Rattle.derivation.specs.Applying.{RuleFact, rule_of, judgment_numbers, premise_numbers}
+use Rattle.derivation.specs.Applying.{RuleFact, rule_of, premise_numbers}
 use Rattle.derivation.proofs.RuleFacts.{rule_row_lem, rule_assumed_lem, rule_derived_lem, assumed_is}
 
 -- Their numbers ----------------------------------------------------------------------------------------------------------------------
 
-length_judgments : (facts hs : List ℕ) → length (judgment_numbers facts hs) ≡ length hs
-unfolding judgment_numbers
+length_judgments : (facts hs : List ℕ) → length (judgment_cells facts hs) ≡ length hs
+unfolding judgment_cells
 length_judgments facts [] = refl
 length_judgments facts (h ∷ hs) = ap suc (length_judgments facts hs)
 
-judgments_at_lem : (facts hs : List ℕ) (k : ℕ) → k < length hs → get_or (judgment_numbers facts hs) k 0 ≡ cell 6 facts (get_or hs k 0) 0
-unfolding judgment_numbers
+judgments_at_lem : (facts hs : List ℕ) (k : ℕ) → k < length hs → get_or (judgment_cells facts hs) k 0 ≡ cell 6 facts (get_or hs k 0) 0
+unfolding judgment_cells
 judgments_at_lem facts [] k l = absurd (omega arith)
 judgments_at_lem facts (h ∷ hs) zero l = refl
 judgments_at_lem facts (h ∷ hs) (suc k) l = judgments_at_lem facts hs k (omega arith)
@@ -52,15 +52,15 @@ module _ (facts lists : List ℕ) (i : ℕ) where
   numbers_assumed e =
       ap (λ (b : Bool). elim b as (λ (z : Bool). List ℕ) [
         | true ↦ part lists (premises_span facts i)
-        | false ↦ judgment_numbers facts (part lists (hyps_span facts i))
+        | false ↦ judgment_cells facts (part lists (hyps_span facts i))
       ]) e
 
-  numbers_derived : not (eqb (cell 6 facts i 1) 0) ≡ false → premise_numbers facts lists i ≡ judgment_numbers facts (part lists (hyps_span facts i))
+  numbers_derived : not (eqb (cell 6 facts i 1) 0) ≡ false → premise_numbers facts lists i ≡ judgment_cells facts (part lists (hyps_span facts i))
   unfolding premise_numbers
   numbers_derived e =
       ap (λ (b : Bool). elim b as (λ (z : Bool). List ℕ) [
         | true ↦ part lists (premises_span facts i)
-        | false ↦ judgment_numbers facts (part lists (hyps_span facts i))
+        | false ↦ judgment_cells facts (part lists (hyps_span facts i))
       ]) e
 
 -- a part is no longer than the list
@@ -84,8 +84,8 @@ module _ {facts lists : List ℕ} {i : ℕ} (g : RuleFact facts lists i) {b : Bo
 
   -- of another fact: own are its hypotheses
   module _ (t : b ≡ false) (e : own ≡ part lists (hyps_span facts i)) where
-    rests_are : judgment_numbers facts own ≡ premise_numbers facts lists i
-    rests_are = ap (judgment_numbers facts) e ∙ sym (numbers_derived facts lists i (sym a ∙ t))
+    rests_are : judgment_cells facts own ≡ premise_numbers facts lists i
+    rests_are = ap (judgment_cells facts) e ∙ sym (numbers_derived facts lists i (sym a ∙ t))
 
     pub rests_count : length own ≡ length (premise_numbers facts lists i)
     rests_count = sym (length_judgments facts own) ∙ ap length rests_are
@@ -107,13 +107,13 @@ module _ {facts lists : List ℕ} {i : ℕ} (g : RuleFact facts lists i) {b : Bo
 -- Their trees ------------------------------------------------------------------------------------------------------------------------
 
 module _ {facts footings lists : List ℕ} {n : Sizes} {M : Made} {S : State} (h : Recorded (records facts footings lists) n M S) where
-  hyps_numbered : (hs : List ℕ) → All (λ j. j < n.facts) hs → AllNumbered M (judgments_at S.facts hs) (judgment_numbers facts hs)
-  unfolding judgments_at judgment_numbers numbers args_of count_trees judgment_of
+  hyps_numbered : (hs : List ℕ) → All (λ j. j < n.facts) hs → AllNumbered M (judgments_at S.facts hs) (judgment_cells facts hs)
+  unfolding judgments_at judgment_cells numbers args_of count_trees judgment_of
   hyps_numbered [] none_of = record { is = refl; below = none_of; trees = refl; many = refl }
   hyps_numbered (j ∷ hs) (both p a) =
       let r = fact_row_lem h j p in
       let k = hyps_numbered hs a in
-      subst (λ (t : Tree). AllNumbered M (more t (judgments_at S.facts hs)) (cell 6 facts j 0 ∷ judgment_numbers facts hs)) (sym (ap judgment_of r.is))
+      subst (λ (t : Tree). AllNumbered M (more t (judgments_at S.facts hs)) (cell 6 facts j 0 ∷ judgment_cells facts hs)) (sym (ap judgment_of r.is))
       (record {
         is = λ i. r.judgment.is i ∷ k.is i;
         below = both r.judgment.below k.below;
@@ -135,7 +135,7 @@ module _ {facts footings lists : List ℕ} {n : Sizes} {M : Made} {S : State} (h
       go false e =
           subst (λ (a : Applied). AllNumbered M a.premises (premise_numbers facts lists i)) (sym (rule_derived_lem S [] i (fact_of S i) e))
           (subst (λ (ns : List ℕ). AllNumbered M (judgments_at S.facts (fact_of S i).hyps) ns)
-          (sym (ap (judgment_numbers facts) row.hyps) ∙ sym (numbers_derived facts lists i (row.assumed ∙ e)))
+          (sym (ap (judgment_cells facts) row.hyps) ∙ sym (numbers_derived facts lists i (row.assumed ∙ e)))
           (hyps_numbered (fact_of S i).hyps row.hyps_below))
 
 -- What is left of them ---------------------------------------------------------------------------------------------------------------

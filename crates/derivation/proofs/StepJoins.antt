@@ -29,11 +29,6 @@ use Rattle.referring.specs.Referral.{rests_on, instances_of, ref_of}
 
 -- Judgments ------------------------------------------------------------------------------------------------------------------------
 
-pub before_none : (ts : Trees) → before ts none ≡ ts
-unfolding before
-before_none none = refl
-before_none (more t ts) = ap (more t) (before_none ts)
-
 before_before : (ts us vs : Trees) → before (before ts us) vs ≡ before ts (before us vs)
 unfolding before
 before_before none us vs = refl

@@ -21,8 +21,7 @@ use Rattle.rules.specs.Laws.Theory.{All}
 use Rattle.rules.specs.Laws.Set.{union_empty}
 use Rattle.sexp.specs.Encode.{encodes}
 use Rattle.sexp.specs.Items.{item_at, behind}
-use Rattle.sexp.specs.ItemLaws.{More}
-use Rattle.sexp.specs.WalkLaws.{Walk, walk_start, walk_more, walk_over, walk_rest}
+use Rattle.sexp.specs.WalkLaws.{Walk, walk_start, walk_over}
 use Rattle.terms.specs.declared.store.Mark.{Mark}
 use Rattle.terms.specs.Table.{made, args_of}
 use Rattle.terms.specs.Sets.{holds}
@@ -37,8 +36,9 @@ use Rattle.referring.specs.Recall.{Refers, RefersItem, RecallsFact, fact_of}
 use Rattle.referring.specs.Referral.{RefRead, rests_on, instances_of}
 use Rattle.referring.specs.Derived.{FactForm, FewItems, RefsRead}
 use Rattle.referring.specs.Laws.Refers.{refers_reference}
-use Rattle.reading.specs.Laws.Walks.{walk_next, then_same}
-use Rattle.derivation.proofs.StepJoins.{joined, joined_none, joined_ref, before_none, then_other, references_one, references_stop, joins_under, rests_below}
+use Rattle.reading.specs.Laws.Walks.{Here, here, walk_next, then_same}
+use Rattle.derivation.proofs.StepJoins.{joined, joined_none, joined_ref, then_other, references_one, references_stop, joins_under, rests_below}
+use Rattle.terms.specs.Laws.Patterns.{before_none}
 
 -- zs are left in the cells from a place on; k are read
 pub record Left (K : Names) (facts footings lists : List ℕ) (n : Sizes) (I W : List ℕ) (old : Mark) (cells : List ℕ) (S : State) (xs : Sexps)
@@ -114,16 +114,13 @@ module _ {K : Names} {facts footings lists : List ℕ} {n : Sizes} {I W : List �
   -- One reference ------------------------------------------------------------------------------------------------------------------------
 
   module _ (t : at < length cells) where
-    pub one : More l.zs
-    one = walk_more l.walk t
-
-    pub one_walk : Walk K.text cells at (cons one.first one.others)
-    one_walk = subst (λ (z : Sexps). Walk K.text cells at z) one.is l.walk
+    pub one : Here K.text cells at l.zs
+    one = here l.walk t
 
     abbrev pub left_given : RefersItem K facts n J X now (take (length cells - at) (drop at cells))
-    left_given = record { S = S; footings = footings; lists = lists; x = one.first; ys = one.others; refers = l.refers; holds = walk_rest one_walk }
+    left_given = record { S = S; footings = footings; lists = lists; x = one.x; ys = one.ys; refers = l.refers; holds = one.holds }
 
-    one_count : k + (count one.others + 1) ≡ count xs
+    one_count : k + (count one.ys + 1) ≡ count xs
     unfolding count
     one_count = omega (arith, l.counted, ap count one.is)
 
@@ -134,7 +131,7 @@ module _ {K : Names} {facts footings lists : List ℕ} {n : Sizes} {I W : List �
     abbrev rest_of : Sexps → Out Made Refs
     rest_of zs = then (references S zs (made J X now)) (λ rs s. ok (joined (args_of (made J X now) (take k ids)) (holds hyps) (holds footing) many rs) s)
 
-    on_one : On I W old (references S xs (made I W old)) J X now (rest_of (cons one.first one.others))
+    on_one : On I W old (references S xs (made I W old)) J X now (rest_of (cons one.x one.ys))
     on_one = on_is l.on (ap rest_of one.is)
 
     pub left_refused : {Y Z : List ℕ} {new : Mark} {q d : ℕ} → ((h : RefersItem K facts n J X now (take (length cells - at) (drop at cells))) →
@@ -143,12 +140,12 @@ module _ {K : Names} {facts footings lists : List ℕ} {n : Sizes} {I W : List �
         let s = p left_given in
         record {
           grown = grown_trans on_one.grown s.grown;
-          makes = on_one.here ∙ references_stop S one.first one.others (made J X now) (made Y Z new) _ q d s.makes;
+          makes = on_one.here ∙ references_stop S one.x one.ys (made J X now) (made Y Z new) _ q d s.makes;
         }
 
     module _ {Y Z : List ℕ} {new : Mark} {j i : ℕ} {bare : Bool} (p : (h : RefersItem K facts n J X now (take (length cells - at) (drop at cells))) →
         RefRead J X Y Z now h.S (reference h.S h.x (made J X now)) j i bare new) where
-      left_ref : RefRead J X Y Z now S (reference S one.first (made J X now)) j i bare new
+      left_ref : RefRead J X Y Z now S (reference S one.x (made J X now)) j i bare new
       left_ref = p left_given
 
       pub left_fits : j < 2 ^ 32
@@ -184,13 +181,13 @@ module _ {K : Names} {facts footings lists : List ℕ} {n : Sizes} {I W : List �
             Left K facts footings lists n I W old cells S xs Y Z new (set ids k j) hyps' footing' (k + 1) (many + c) next
         one_done {c} {next} room m f =
             record {
-              zs = one.others;
-              walk = walk_next one_walk f;
-              refers = refers_reference l.refers one.first left_ref.went;
+              zs = one.ys;
+              walk = walk_next one.walk f;
+              refers = refers_reference l.refers one.x left_ref.went;
               on = record {
                 grown = grown_trans on_one.grown left_ref.went.grown;
-                here = on_one.here ∙ references_one S one.first one.others (made J X now) (made Y Z new) _ _ left_ref.went.makes
-                    ∙ then_other (references S one.others (made Y Z new)) _ _ (λ rs s. ap (λ (z : Refs). ok z s)
+                here = on_one.here ∙ references_one S one.x one.ys (made J X now) (made Y Z new) _ _ left_ref.went.makes
+                    ∙ then_other (references S one.ys (made Y Z new)) _ _ (λ rs s. ap (λ (z : Refs). ok z s)
                     (joined_ref S (made J X now) (made Y Z new) ids k j i bare (holds hyps) (holds footing) (holds hyps') (holds footing') many c rs room
                     (grown_args left_ref.went.grown (take k ids) so_far) (b left_fact).0 (b left_fact).1 m));
               };

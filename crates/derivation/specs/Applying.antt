@@ -1,4 +1,5 @@
 -- A fact as a rule: its premises by their numbers, and what is left of the form `apply` at each of its places. Assumes nothing.
+use Rattle.state.specs.Records.{fact_rows, fact_feet}
 use Rattle.std.specs.Prelude.{◌≡◌, true, false, not, List, [], ◌∷◌, ℕ, ◌<◌, eqb, length, Result, Ok, Err}
 use Rattle.rules.specs.Out.{Out, ok, refuse, Act, pure, ask, ◌>>=◌}
 use Rattle.rules.specs.Sexp.{Sexp, Sexps, count, item, items}
@@ -27,7 +28,7 @@ use Rattle.referring.specs.declared.source.Facts.{Facts}
 use Rattle.referring.specs.declared.source.Source.{Source}
 use Rattle.referring.specs.declared.support.Support.{Support}
 use Rattle.referring.specs.Sources.{source_names}
-use Rattle.referring.specs.Recall.{Refers}
+use Rattle.referring.specs.Recall.{judgment_cells, Refers}
 
 -- A fact as a rule ---------------------------------------------------------------------------------------------------------------
 
@@ -41,7 +42,7 @@ pub record RuleFact (facts lists : List ℕ) (i : ℕ) : Type 0 where
   pub there : i < n.facts
 
 abbrev pub RuleIn : Facts → ℕ → Type 0
-RuleIn f i = RuleFact f.rows.now f.lists.now i
+RuleIn f i = RuleFact (fact_rows f.records.now) f.lists.now i
 
 -- what the definition makes of it, where it can be used
 unfoldable pub rule_of : State → ℕ → Fact → Applied
@@ -56,17 +57,12 @@ abbrev pub ApplicableAs : State → List Binding → ℕ → Fact → Result (Un
 ApplicableAs S bs i f (Ok _) = (M : Made) → applied S bs i f M ≡ ok (rule_of S i f) M
 ApplicableAs S bs i f (Err q) = (M : Made) → applied S bs i f M ≡ refuse (number_of q) (detail_of q) M
 
--- the numbers of the judgments of facts
-unfoldable pub judgment_numbers : List ℕ → List ℕ → List ℕ
-judgment_numbers facts [] = []
-judgment_numbers facts (h ∷ hs) = cell 6 facts h 0 ∷ judgment_numbers facts hs
-
 -- the numbers of its premises
 unfoldable pub premise_numbers : List ℕ → List ℕ → ℕ → List ℕ
 premise_numbers facts lists i =
     elim (not (eqb (cell 6 facts i 1) 0)) [
       | true ↦ part lists (premises_span facts i)
-      | false ↦ judgment_numbers facts (part lists (hyps_span facts i))
+      | false ↦ judgment_cells facts (part lists (hyps_span facts i))
     ]
 
 -- What is left of the form -----------------------------------------------------------------------------------------------------------
@@ -117,7 +113,7 @@ pub record RuleUse (K : Names) (facts footings lists : List ℕ) (n : Sizes) (I 
   pub theta : Theta m bound
 
 abbrev pub UsesRule : Source → Store → ℕ → List ℕ → List ℕ → Type 0
-UsesRule s t i cells bound = RuleUse (source_names s) s.rows.now s.footings.now s.lists.now s.reader.n t.index.now t.words.now t.mark i cells bound
+UsesRule s t i cells bound = RuleUse (source_names s) (fact_rows s.records.now) (fact_feet s.records.now) s.lists.now s.reader.n t.index.now t.words.now t.mark i cells bound
 
 -- K answers the references together: what they bring is in the sets
 pub record Discharged (I W J X : List ℕ) (old : Mark) (S : State) (K : Out Made Refs) (hyps footing used : List ℕ) (new : Mark) : Type 0 where

@@ -1,4 +1,5 @@
 -- The parts of a step behind its references: what the definition says of each, what they are given and what they answer. Assumes nothing.
+use Rattle.state.specs.Records.{fact_rows}
 use Rattle.std.specs.Prelude.{◌≡◌, false, List, [], ◌∷◌, ℕ, ◌*◌, ◌<◌, ◌≤◌, eqb, length, get_or, Option, Result, Ok, Err}
 use Rattle.rules.specs.Limits.{SYMBOLS, FACTWORDS}
 use Rattle.rules.specs.Out.{Out, Act, ◌>>=◌, pure, ask, found}
@@ -146,7 +147,7 @@ ReadsConclusion r u s cells ids = Concludes (names_of r) (tables_of r u) r.n s.i
 
 abbrev pub ScopesIn : Source → OneRule → Store → List ℕ → List ℕ → Support → Type 0
 ScopesIn o u s cells ids support =
-    Scopes (source_names o) (tables_of o.reader u) o.rows.now o.lists.now o.reader.n s.index.now s.words.now s.mark u.number cells ids support.hyps
+    Scopes (source_names o) (tables_of o.reader u) (fact_rows o.records.now) o.lists.now o.reader.n s.index.now s.words.now s.mark u.number cells ids support.hyps
 
 -- Answers ----------------------------------------------------------------------------------------------------------------------------
 

@@ -1,5 +1,6 @@
 // `(apply N M (BINDING...) (REF...))`: fact M as a rule. An assumed M binds its generalised variables and has its premises; of another M the
 // hypotheses, all plain, are the premises, by rising index.
+ghost use Rattle.state.specs.Records.{fact_rows};
 ghost use Rattle.std.specs.Prelude.{◌≡◌, ◌<◌, length, get_or, replicate};
 ghost use Rattle.rules.specs.Limits.{VARIABLES, TERMS, VARIABLEWORDS, FACTWORDS};
 ghost use Rattle.rules.specs.Find.{all, union, has as has_number};
@@ -25,7 +26,7 @@ use referring::support::{Derived, Support};
 use rules::{TERMWORDS, VARIABLES, VARIABLEWORDS};
 use sexp::items;
 use sexp::items::Item;
-use state::facts::{is_assumed, is_fact, is_plain, judgment};
+use state::recorded::{is_assumed, is_fact, is_plain, judgment};
 use terms::sets::{has, insert};
 use terms::store::Store;
 use terms::substitute::substitute;
@@ -44,7 +45,7 @@ fn rests_on_plain(facts: &Facts<'_>, i: usize) -> bool
     ensures { (g : RuleIn facts.now i) → result ≡ all (plain_at g.S.facts) (fact_of g.S i).hyps }
 {
     for h in facts.hyps(i) {
-        if !is_plain(facts.rows, *h as usize) {
+        if !is_plain(facts.records, *h as usize) {
             return false;
         }
     }
@@ -54,9 +55,9 @@ fn rests_on_plain(facts: &Facts<'_>, i: usize) -> bool
 // How many premises fact i has as a rule.
 fn premises_of(facts: &Facts<'_>, i: usize) -> usize
     requires { RuleIn facts.now i }
-    ensures { result ≡ length (premise_numbers facts.now.rows.now facts.now.lists.now i) }
+    ensures { result ≡ length (premise_numbers (fact_rows facts.now.records.now) facts.now.lists.now i) }
 {
-    if is_assumed(facts.rows, i) {
+    if is_assumed(facts.records, i) {
         return facts.premises(i).len();
     }
     facts.hyps(i).len()
@@ -64,13 +65,13 @@ fn premises_of(facts: &Facts<'_>, i: usize) -> usize
 
 // Its premise k.
 fn premise(facts: &Facts<'_>, i: usize, k: usize) -> usize
-    requires { RuleIn facts.now i × (k < length (premise_numbers facts.now.rows.now facts.now.lists.now i)) }
-    ensures { result ≡ get_or (premise_numbers facts.now.rows.now facts.now.lists.now i) k 0 }
+    requires { RuleIn facts.now i × (k < length (premise_numbers (fact_rows facts.now.records.now) facts.now.lists.now i)) }
+    ensures { result ≡ get_or (premise_numbers (fact_rows facts.now.records.now) facts.now.lists.now i) k 0 }
 {
-    if is_assumed(facts.rows, i) {
+    if is_assumed(facts.records, i) {
         return facts.premises(i)[k] as usize;
     }
-    judgment(facts.rows, facts.hyps(i)[k] as usize)
+    judgment(facts.records, facts.hyps(i)[k] as usize)
 }
 
 // A hypothesis that is used as a rule is rested on.
@@ -78,7 +79,7 @@ fn rest_on(facts: &Facts<'_>, i: usize, hyps: &mut [u64])
     requires { RuleIn facts.now i × (length hyps.old ≡ FACTWORDS) }
     ensures { (g : RuleIn facts.now i) → holds hyps.new ≡ union (has_number (rule_of g.S i (fact_of g.S i)).hyps) (holds hyps.old) }
 {
-    if is_assumed(facts.rows, i) {
+    if is_assumed(facts.records, i) {
         insert(hyps, i);
     }
 }
@@ -104,7 +105,7 @@ impl Rule<'_> {
         requires { RuleIn facts.now self.now.fact × (length self.now.bound.now ≡ VARIABLES) }
         ensures { (g : RuleIn facts.now self.now.fact) (M : Made) → ApplicableAs g.S (bindings_of M self.now.bound.now 0) self.now.fact (fact_of g.S self.now.fact) result }
     {
-        if is_assumed(facts.rows, self.fact) {
+        if is_assumed(facts.records, self.fact) {
             if self.binds_general(facts) {
                 return Ok(());
             }
@@ -227,7 +228,7 @@ impl Rule<'_> {
         if items::count(inner) != premises_of(&facts, self.fact) {
             return Err(Question::Premises);
         }
-        let j = substitute(store, self.bound, memo, judgment(facts.rows, self.fact))?;
+        let j = substitute(store, self.bound, memo, judgment(facts.records, self.fact))?;
         self.apply_to(source, store, j, inner, memo)
     }
 }

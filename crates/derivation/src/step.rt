@@ -146,10 +146,7 @@ fn conclude(
     let OneRule { rules, number } = *rule;
     let place = rules.conclusion(reader.symbols, number);
     let first = rules.words(number).from;
-    let patterns = Patterns {
-        symbols: reader.symbols,
-        words: rules.patterns,
-    };
+    let patterns = rules.patterns(reader.symbols);
     let judgment = said.matched(&patterns, store, first, place, ids)?;
     Ok(Concluded { judgment, used })
 }

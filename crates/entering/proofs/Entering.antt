@@ -32,6 +32,7 @@ use Rattle.questions.specs.declared.Row.{Row}
 use Rattle.questions.specs.declared.Question.{Question}
 use Rattle.questions.specs.declared.Question.TheVariants.{Room}
 use Rattle.questions.specs.Numbers.{row_number}
+use Rattle.state.specs.Boards.{records_of, EnterAs, Words}
 use Rattle.state.specs.Held.{Names, RuleLists, Records, records, Recorded}
 use Rattle.state.specs.Rows.{Putting}
 use Rattle.state.specs.Members.{Under, rising_under}
@@ -49,11 +50,10 @@ use Rattle.referring.specs.declared.support.Derived.{Derived}
 use Rattle.referring.specs.Derived.{derived_fact, DerivedRead, with_instances, alone}
 use Rattle.referring.specs.Sources.{source_of}
 use Rattle.forms.specs.Halted.{Halts}
-use Rattle.forms.specs.Boards.{records_of}
 use Rattle.forms.specs.Laws.Making.{Reached, reached_start, reached_went, reached_stopped, reached_halts}
 use Rattle.entering.specs.declared.derive.Way.{Way}
 use Rattle.entering.specs.declared.derive.Way.TheVariants as way
-use Rattle.entering.specs.Entered.{AddsInstance, AddsDerived, AddsBy, FoundBy, AddedBy, FactAdded, EnterAs, Words, way_counts}
+use Rattle.entering.specs.Entered.{AddsInstance, AddsDerived, AddsBy, FoundBy, AddedBy, FactAdded, way_counts}
 
 -- What is left is to add the fact ------------------------------------------------------------------------------------------------------
 

@@ -1,5 +1,5 @@
 -- The form of an inversion: a derived fact comes behind the others, and then the rows of the variables that were made. Assumes nothing.
-use Rattle.std.specs.Prelude.{◌≡◌, refl, List, [], ◌∷◌, ℕ, suc, ◌-◌, ◌≤◌, length, take, drop, Result, Ok as done, Err as refused}
+use Rattle.std.specs.Prelude.{◌≡◌, refl, List, ℕ, ◌-◌, ◌≤◌, length, take, drop, Result, Ok as done, Err as refused}
 use Rattle.std.proofs.Common.{sym, ap, subst, arith, length-append, length-take}
 use Rattle.rules.specs.Limits.{VARIABLES}
 use Rattle.rules.specs.Out.{then, Act}
@@ -22,6 +22,7 @@ use Rattle.terms.specs.Lent.{made_of}
 use Rattle.state.specs.declared.sizes.Sizes.{Sizes}
 use Rattle.state.specs.declared.board.Given.{Given}
 use Rattle.state.specs.declared.board.Board.{Board}
+use Rattle.state.specs.Boards.{records_of, OnlyFacts, EnterAs, Words}
 use Rattle.state.specs.Held.{Records, Recorded, VarsHeld}
 use Rattle.state.specs.Used.{vars_now}
 use Rattle.state.specs.Rows.{Putting}
@@ -35,11 +36,10 @@ use Rattle.inversion.specs.declared.invert.Inverted.{Inverted}
 use Rattle.inversion.specs.InvertRules.{vars_with, nameless}
 use Rattle.inversion.specs.Inversions.{InvertedRead}
 use Rattle.inversion.specs.Inverting.{InvertsForm, InvertedAs}
-use Rattle.forms.specs.Boards.{records_of, OnlyFacts}
 use Rattle.forms.specs.Laws.Making.{Reached, reached_start, reached_went, reached_stopped}
-use Rattle.entering.specs.Entered.{EnterAs, Words}
 use Rattle.entering.specs.Inverted.{AddsInversionIn, InversionBy, InversionAs}
 use Rattle.entering.proofs.Entering.{entering_ok, entering_full, fits_cell, derived_putting}
+use Rattle.inversion.proofs.InvertNames.{nameless_length}
 
 -- Other sizes ------------------------------------------------------------------------------------------------------------------------
 
@@ -49,17 +49,12 @@ sized : (R Q : Records) (n : Sizes) (v j : ℕ) (hyps footing : List ℕ) (r : R
 sized R Q n v j hyps footing (done e) p = (record { facts = p.0.facts; lists = p.0.lists; footings = p.0.footings; room = p.0.room }, p.1, p.2)
 sized R Q n v j hyps footing (refused row) p = p
 
-length_nameless : (xs : List ℕ) → length (nameless xs) ≡ length xs
-unfolding nameless
-length_nameless [] = refl
-length_nameless (x ∷ xs) = ap suc (length_nameless xs)
-
 -- `invert` -----------------------------------------------------------------------------------------------------------------------------
 
 -- b, s before; t: the store behind what was found
-module _ (g : Given) (b : Board) (s t : Store) (cells before sorts : List ℕ) where
+module _ (g : Given) (b : Board) (s t : Store) (cells : List ℕ) where
   abbrev Found : Result Inverted Question → Type 0
-  Found r = (x : InvertsForm (source_of g b) g.rules s cells) → InvertedAs s t x.S (invert x.S x.xs (made_of s)) before sorts r
+  Found r = (x : InvertsForm (source_of g b) g.rules s cells) → InvertedAs s t x.S (invert x.S x.xs (made_of s)) r
 
   module _ (x : AddsInversionIn g b s cells) where
     abbrev S : State
@@ -84,7 +79,7 @@ module _ (g : Given) (b : Board) (s t : Store) (cells before sorts : List ℕ) w
     invert_halted q f = (
       record {
         us = S.vars;
-        halts = reached_stopped (invert S xs) rest invert_start (invert_sound (made_of s) S ready xs) (f x.form).0;
+        halts = reached_stopped (invert S xs) rest invert_start (invert_sound (made_of s) S ready xs) (f x.form);
         facts_same = refl;
         vars_same = refl;
       },
@@ -93,7 +88,7 @@ module _ (g : Given) (b : Board) (s t : Store) (cells before sorts : List ℕ) w
 
     module _ (d : Inverted) (f : Found (done d)) where
       abbrev us : List Var
-      us = vars_with S.vars sorts d.vars
+      us = vars_with S.vars d.vars.sorts d.vars.count
 
       abbrev S' : State
       S' = with_vars S us
@@ -104,7 +99,7 @@ module _ (g : Given) (b : Board) (s t : Store) (cells before sorts : List ℕ) w
       abbrev footing : List ℕ
       footing = d.derived.support.footing
 
-      read : InvertedRead s.index.now s.words.now t.index.now t.words.now s.mark S (invert S xs (made_of s)) hyps footing sorts d.derived.judgment d.vars t.mark
+      read : InvertedRead s.index.now s.words.now t.index.now t.words.now s.mark S (invert S xs (made_of s)) hyps footing d.vars.sorts d.derived.judgment d.vars.count t.mark
       read = (f x.form).0
 
       pub invert_putting : Putting (records_of b) b.n d.derived.judgment
@@ -119,11 +114,11 @@ module _ (g : Given) (b : Board) (s t : Store) (cells before sorts : List ℕ) w
       behind : Behind S.vars us
       behind = record { new = _; is = refl }
 
-      there : Recorded (records_of b) (vars_now b.n d.vars) (made_of s) S'
-      there = recorded_vars x.form.refers.recorded d.vars behind
-          (let n = length_nameless (take (d.vars - length S.vars) (drop (length S.vars) sorts)) in
-          let m = length-take (d.vars - length S.vars) (drop (length S.vars) sorts) in
-          let l = length-append S.vars (nameless (take (d.vars - length S.vars) (drop (length S.vars) sorts))) in
+      there : Recorded (records_of b) (vars_now b.n d.vars.count) (made_of s) S'
+      there = recorded_vars x.form.refers.recorded d.vars.count behind
+          (let n = nameless_length (take (d.vars.count - length S.vars) (drop (length S.vars) d.vars.sorts)) in
+          let m = length-take (d.vars.count - length S.vars) (drop (length S.vars) d.vars.sorts) in
+          let l = length-append S.vars (nameless (take (d.vars.count - length S.vars) (drop (length S.vars) d.vars.sorts))) in
           omega (arith, n, m, l, read.more, read.few))
 
       -- there is no room for the fact
@@ -131,13 +126,13 @@ module _ (g : Given) (b : Board) (s t : Store) (cells before sorts : List ℕ) w
           InversionAs g b c s t S (add_invert xs S) (refused (Room row))
       invert_full c o row p =
           let z = entering_full there d.derived.judgment hyps footing (λ _. one_inversion) 0 reached read.earlier row
-          (sized (records_of b) (records_of c) b.n d.vars d.derived.judgment hyps footing (refused row) p.0) in
+          (sized (records_of b) (records_of c) b.n d.vars.count d.derived.judgment hyps footing (refused row) p.0) in
           (record { us = us; halts = z.0; facts_same = z.1; vars_same = o.0 }, p.1)
 
       -- there is; vars: the rows of variables then
       pub invert_entered : (c : Board) (vars : List ℕ) → Words footing → length footing ≡ 4 → EnterAs b c d.derived.judgment hyps footing (done tt) →
-          VarsHeld g.goals.now g.text.now vars d.vars us → (u : Counts) → counts_of u ≡ one_inversion →
-          InversionBy g.goals.now g.text.now (records_of b) (records_of c) b.n (vars_now c.n d.vars) s.index.now s.words.now t.index.now t.words.now s.mark t.mark
+          VarsHeld g.goals.now g.text.now vars d.vars.count us → (u : Counts) → counts_of u ≡ one_inversion →
+          InversionBy g.goals.now g.text.now (records_of b) (records_of c) b.n (vars_now c.n d.vars.count) s.index.now s.words.now t.index.now t.words.now s.mark t.mark
           S (add_invert xs S) b.vars.now vars (done u)
       invert_entered c vars w l p h u k = (
         record {
@@ -146,9 +141,9 @@ module _ (g : Given) (b : Board) (s t : Store) (cells before sorts : List ℕ) w
           behind = behind;
           added = entering_ok there d.derived.judgment hyps footing (λ _. one_inversion) 0 reached read.earlier read.there read.known
               (of_ok (invert_shape S x.form.refers.recorded.shaped xs (made_of s)) read.went.makes) l w
-              (sized (records_of b) (records_of c) b.n d.vars d.derived.judgment hyps footing (done c.n.entries) p.0);
+              (sized (records_of b) (records_of c) b.n d.vars.count d.derived.judgment hyps footing (done c.n.entries) p.0);
         },
-        ap (λ z. vars_now z d.vars) p.1,
+        ap (λ z. vars_now z d.vars.count) p.1,
         k,
       )
 
@@ -158,12 +153,10 @@ module _ (g : Given) (b : Board) (s t : Store) (cells before sorts : List ℕ) w
           subst (λ (q : List ℕ × ℕ). VarsHeld g.goals.now g.text.now q.0 q.1 S.vars) (λ i. (sym o.0 i, (sym p.1 i).vars)) x.form.refers.reads.spelling.vars
 
       -- what `put_made` asks
-      pub invert_makes : (c : Board) → OnlyFacts b c → EnterAs b c d.derived.judgment hyps footing (done tt) → length sorts ≡ VARIABLES →
-          ((goals : List ℕ) × (text : List ℕ) × (vs : List Var) × VarsHeld goals text c.vars.now c.n.vars vs) × (c.n.vars ≤ d.vars) × (d.vars ≤ VARIABLES)
-          × (length sorts ≡ VARIABLES)
-      invert_makes c o p l = (
+      pub invert_makes : (c : Board) → OnlyFacts b c → EnterAs b c d.derived.judgment hyps footing (done tt) →
+          ((goals : List ℕ) × (text : List ℕ) × (vs : List Var) × VarsHeld goals text c.vars.now c.n.vars vs) × (c.n.vars ≤ d.vars.count) × (d.vars.count ≤ VARIABLES)
+      invert_makes c o p = (
         (g.goals.now, g.text.now, S.vars, invert_held c o p),
         let z = ap (λ (q : Sizes). q.vars) p.1 in omega (arith, z, read.more, x.form.refers.reads.spelling.vars.stand.many),
         read.few,
-        l,
       )

@@ -1,5 +1,6 @@
 -- What the forms of derived facts are given and what they answer, beside what the definition answers: K. Assumes nothing.
-use Rattle.std.specs.Prelude.{◌≡◌, List, ℕ, ◌+◌, ◌^◌, ◌<◌, get_or, replicate, Result, Ok, Err}
+use Rattle.state.specs.Records.{fact_rows, fact_feet}
+use Rattle.std.specs.Prelude.{◌≡◌, List, ℕ, ◌+◌, replicate, Result, Ok, Err}
 use Rattle.rules.specs.Limits.{TERMS}
 use Rattle.rules.specs.Out.{Out, ok}
 use Rattle.rules.specs.Sexp.{Sexps}
@@ -9,7 +10,6 @@ use Rattle.rules.specs.Induct.{induct, induct_with}
 use Rattle.rules.specs.State.{State, Fact, Counts}
 use Rattle.rules.specs.Forms.{with_made, plus, add_step, add_apply, add_induct, add_induct_with}
 use Rattle.questions.specs.declared.Question.{Question}
-use Rattle.questions.specs.declared.Row.{Row}
 use Rattle.questions.specs.Numbers.{number_of, detail_of}
 use Rattle.kernel.specs.declared.rule_readers.Rules.{Rules}
 use Rattle.terms.specs.declared.store.Mark.{Mark}
@@ -19,6 +19,7 @@ use Rattle.terms.specs.Lent.{made_of}
 use Rattle.state.specs.declared.sizes.Sizes.{Sizes}
 use Rattle.state.specs.declared.board.Given.{Given}
 use Rattle.state.specs.declared.board.Board.{Board}
+use Rattle.state.specs.Boards.{records_of}
 use Rattle.state.specs.Held.{Names, RuleLists, Records, rule_lists}
 use Rattle.state.specs.Used.{facts_now}
 use Rattle.state.specs.Recording.{Valid, Derives, DerivedPut, with_fact}
@@ -31,7 +32,7 @@ use Rattle.referring.specs.declared.support.Derived.{Derived}
 use Rattle.referring.specs.Derived.{FactForm, RuleForm, DerivedAs, with_instances, alone}
 use Rattle.referring.specs.Sources.{ReadsForm, ReadsRuleForm}
 use Rattle.forms.specs.Halted.{Makes, Halts}
-use Rattle.forms.specs.Boards.{names_in, records_of}
+use Rattle.forms.specs.Boards.{names_in}
 use Rattle.entering.specs.declared.derive.Way.{Way}
 use Rattle.entering.specs.declared.derive.Way.TheVariants as way
 
@@ -48,14 +49,14 @@ pub record AddsInstance (K : Names) (P : RuleLists) (facts footings lists : List
   pub store : made I W m ≡ form.S.made
 
 abbrev pub AddsDerivedIn : Given → Board → Store → List ℕ → ℕ → Type 0
-AddsDerivedIn g b s cells least = AddsDerived (names_in g b) b.facts.now b.footings.now b.lists.now b.n s.index.now s.words.now s.mark cells least
+AddsDerivedIn g b s cells least = AddsDerived (names_in g b) (fact_rows b.facts.now) (fact_feet b.facts.now) b.lists.now b.n s.index.now s.words.now s.mark cells least
 
 abbrev pub rules_in : Given → RuleLists
 rules_in g = rule_lists g.theory.now g.rules.rows.now g.rules.vars.now g.rules.patterns.now
 
 abbrev pub AddsInstanceIn : Given → Board → Store → List ℕ → ℕ → Type 0
 AddsInstanceIn g b s cells least =
-    AddsInstance (names_in g b) (rules_in g) b.facts.now b.footings.now b.lists.now b.n s.index.now s.words.now s.mark cells least
+    AddsInstance (names_in g b) (rules_in g) (fact_rows b.facts.now) (fact_feet b.facts.now) b.lists.now b.n s.index.now s.words.now s.mark cells least
 
 -- by the way in which the fact is found
 abbrev pub AddsBy : Way → Given → Board → Store → List ℕ → Type 0
@@ -124,15 +125,3 @@ AddedBy way.Step g b c s t cells r = (x : AddsInstanceIn g b s cells 4) → Ente
 AddedBy way.Apply g b c s t cells r = (x : AddsDerivedIn g b s cells 5) → EnteredAs b c s t x.form.S (add_apply x.form.xs x.form.S) r
 AddedBy way.Induct g b c s t cells r = (x : AddsDerivedIn g b s cells 5) → EnteredAs b c s t x.form.S (add_induct x.form.xs x.form.S) r
 AddedBy way.InductWith g b c s t cells r = (x : AddsDerivedIn g b s cells 6) → EnteredAs b c s t x.form.S (add_induct_with x.form.xs x.form.S) r
-
--- What is stored last --------------------------------------------------------------------------------------------------------------
-
--- rows 12 and 13 of question 60
-abbrev pub EnterAs : Board → Board → ℕ → List ℕ → List ℕ → Result (Unit {0}) Row → Type 0
-EnterAs b c judgment hyps footing (Ok u) =
-    DerivedPut (records_of b) (records_of c) b.n judgment hyps footing (Ok c.n.entries) × (c.n ≡ facts_now b.n (b.n.facts + 1) c.n.entries)
-EnterAs b c judgment hyps footing (Err row) = DerivedPut (records_of b) (records_of c) b.n judgment hyps footing (Err row) × (c.n ≡ b.n)
-
--- words of 64 bits
-abbrev pub Words : List ℕ → Type 0
-Words set = (i : ℕ) → get_or set i 0 < 2 ^ 64

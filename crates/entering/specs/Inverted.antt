@@ -1,5 +1,6 @@
 -- What the form of an inversion is given and what it answers, beside what the definition answers: K. A derived fact comes behind the others, and the
 -- variables that were made behind the others; where it is refused, no table but the store's has changed. Assumes nothing.
+use Rattle.state.specs.Records.{fact_rows, fact_feet}
 use Rattle.std.specs.Prelude.{◌≡◌, List, ℕ, ◌+◌, Result, Ok, Err}
 use Rattle.rules.specs.Out.{Out}
 use Rattle.rules.specs.State.{State, Var}
@@ -13,13 +14,14 @@ use Rattle.terms.specs.Table.{made}
 use Rattle.state.specs.declared.sizes.Sizes.{Sizes}
 use Rattle.state.specs.declared.board.Given.{Given}
 use Rattle.state.specs.declared.board.Board.{Board}
+use Rattle.state.specs.Boards.{records_of}
 use Rattle.state.specs.Held.{Names, RuleLists, Records, VarsHeld}
 use Rattle.state.specs.Used.{vars_now, facts_now}
 use Rattle.counts.specs.declared.Counts.{Counts}
 use Rattle.counts.specs.Counted.{counts_of}
 use Rattle.inversion.specs.Inversions.{InvertForm}
 use Rattle.forms.specs.Halted.{Halts}
-use Rattle.forms.specs.Boards.{names_in, records_of}
+use Rattle.forms.specs.Boards.{names_in}
 use Rattle.entering.specs.Entered.{rules_in, FactAdded}
 
 -- Given ----------------------------------------------------------------------------------------------------------------------------
@@ -31,7 +33,7 @@ pub record AddsInversion (K : Names) (P : RuleLists) (facts footings lists : Lis
 
 abbrev pub AddsInversionIn : Given → Board → Store → List ℕ → Type 0
 AddsInversionIn g b s cells =
-    AddsInversion (names_in g b) (rules_in g) b.facts.now b.footings.now b.lists.now b.n s.index.now s.words.now s.mark cells
+    AddsInversion (names_in g b) (rules_in g) (fact_rows b.facts.now) (fact_feet b.facts.now) b.lists.now b.n s.index.now s.words.now s.mark cells
 
 -- Answers --------------------------------------------------------------------------------------------------------------------------
 

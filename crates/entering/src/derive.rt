@@ -1,10 +1,8 @@
 // Forms of derived facts: what `step`, `apply`, an induction or an inversion finds comes behind the facts.
-ghost use Rattle.std.specs.Prelude.{◌≡◌, ◌*◌, length};
-ghost use Rattle.rules.specs.Limits.{FACTS};
+ghost use Rattle.std.specs.Prelude.{◌≡◌};
 ghost use Rattle.terms.specs.Lent.{SameTables};
-ghost use Rattle.state.specs.Rows.{Putting};
-ghost use Rattle.forms.specs.Boards.{records_of, SameBoard, OnlyFacts, OnlyFactsAndVars};
-ghost use Rattle.entering.specs.Entered.{way_counts, Spare, FindsBy, FoundBy, AddsBy, AddedBy, EnterAs, Words};
+ghost use Rattle.state.specs.Boards.{SameBoard, OnlyFacts, OnlyFactsAndVars};
+ghost use Rattle.entering.specs.Entered.{way_counts, Spare, FindsBy, FoundBy, AddsBy, AddedBy};
 ghost use Rattle.entering.specs.Inverted.{AddsInversionIn, InvertedBy};
 
 use counts::Counts;
@@ -13,12 +11,11 @@ use derivation::step::step;
 use induction::induct::{induct, induct_with};
 use inversion::invert::{invert, put_made};
 use kernel::rule_readers::Rules;
-use questions::{Question, Row};
+use questions::Question;
 use referring::source::{Source, source_of};
 use referring::support::Derived;
-use rules::{PATTERNS, VARIABLES};
+use rules::PATTERNS;
 use state::board::{Board, Given};
-use state::facts::put_derived;
 use terms::store::Store;
 
 // How a derived fact is found.
@@ -73,43 +70,6 @@ fn find(
     }
 }
 
-// A derived fact comes behind the others, which rests on such hypotheses and rules. A function apart from `enter_derived`: that the footing's cells are
-// of 64 bits is known of a slice that is lent; in one function over `Derived` it was tried, and the proof of `words` does not close.
-fn enter(board: &mut Board<'_>, judgment: usize, hyps: &[u64], footing: &[u64]) -> Result<(), Row>
-    requires putting { Putting (records_of board.old) board.old.n judgment }
-    requires hyps_value { (64 * length hyps.now ≡ FACTS) × (length footing.now ≡ 4) }
-    ensures same_board { SameBoard board.old board.new }
-    ensures only { OnlyFacts board.old board.new }
-    ensures enter_as { EnterAs board.old board.new judgment hyps.now footing.now result }
-    ensures words { Words footing.now }
-{
-    let n = board.n;
-    let entries = put_derived(
-        board.facts,
-        board.footings,
-        board.lists,
-        n,
-        judgment,
-        hyps,
-        footing,
-    )?;
-    board.n.facts += 1;
-    board.n.entries = entries;
-    Ok(())
-}
-
-// What was derived comes behind the facts.
-fn enter_derived(board: &mut Board<'_>, derived: &Derived) -> Result<(), Row>
-    requires { Putting (records_of board.old) board.old.n derived.now.judgment }
-    ensures same_board { SameBoard board.old board.new }
-    ensures only { OnlyFacts board.old board.new }
-    ensures enter_as { EnterAs board.old board.new derived.now.judgment derived.now.support.hyps derived.now.support.footing result }
-    ensures words { Words derived.now.support.footing × (length derived.now.support.footing ≡ 4) }
-{
-    let support = &derived.support;
-    enter(board, derived.judgment, &support.hyps, &support.footing)
-}
-
 // `(step N RULE (REF...) ITEM...)`, `(apply N M (BINDING...) (REF...))`, `(induct N X JUDGMENT (CASE...))` or `(induct N X (HYP...) JUDGMENT (CASE...))`,
 // by the items of the form. `memo` and `ids` are scratch: zero before and after.
 pub fn add_derived(
@@ -131,7 +91,8 @@ pub fn add_derived(
     let given = *given;
     let source = source_of(&given, board);
     let derived = find(&source, &given.rules, store, cells, way, memo, ids)?;
-    enter_derived(board, &derived)?;
+    let support = &derived.support;
+    board.put_derived(derived.judgment, &support.hyps, &support.footing)?;
     Ok(way.counts(derived.instances))
 }
 
@@ -154,12 +115,13 @@ pub fn add_invert(
 {
     let given = *given;
     let source = source_of(&given, board);
-    let mut sorts = [0; VARIABLES];
-    let inverted = invert(&source, &given.rules, store, cells, &mut sorts, memo, ids)?;
-    enter_derived(board, &inverted.derived)?;
+    let inverted = invert(&source, &given.rules, store, cells, memo, ids)?;
+    let found = &inverted.derived;
+    let support = &found.support;
+    board.put_derived(found.judgment, &support.hyps, &support.footing)?;
     let count = board.n.vars;
-    put_made(board.vars, &sorts, count, inverted.vars);
-    board.n.vars = inverted.vars;
+    put_made(board.vars, count, &inverted.vars);
+    board.n.vars = inverted.vars.count;
     Ok(Counts {
         inversions: 1,
         ..Counts::NONE

@@ -26,6 +26,7 @@ use Rattle.terms.specs.Laws.Numbers.{tree_number, tree_stored}
 use Rattle.state.specs.declared.sizes.Sizes.{Sizes}
 use Rattle.std.specs.Prelude.{Result, Ok, Err}
 use Rattle.questions.specs.declared.Row.{Row}
+use Rattle.state.specs.Boards.{HypPutBy}
 use Rattle.state.specs.Held.{Records, records, Recorded}
 use Rattle.state.specs.Rows.{Putting}
 use Rattle.state.specs.Growth.{recorded_on, recorded_made}
@@ -34,7 +35,7 @@ use Rattle.state.specs.Adding.{add_fact_ok, add_fact_12, add_fact_13}
 use Rattle.state.specs.FactLaws.{facts_tabled, footings_tabled, entries_fit}
 use Rattle.state.specs.RowTables.{tabled_long}
 use Rattle.forms.specs.Halted.{Halts}
-use Rattle.forms.specs.Assumed.{HypAdded, HypPutBy, RulePutBy}
+use Rattle.forms.specs.Assumed.{HypAdded, RulePutBy}
 use Rattle.forms.specs.Laws.Making.{Reached, reached_halts}
 use Rattle.forms.proofs.Tails.{tailed, tailed_written}
 

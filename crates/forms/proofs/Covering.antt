@@ -90,9 +90,6 @@ pub record Listing (facts hyps terms : List ℕ) (k : ℕ) : Type 0 where
   pub left : (g : ListsHyps facts hyps terms) (hs : Trees) → Each (sound.Has g.trees) hs → holds terms ≡ has (numbers g.trees hs) →
       all (λ h. listed hs (entry g.S.facts h)) hyps ≡ all (λ h. listed hs (entry g.S.facts h)) (drop k hyps)
 
-pub listing_start : (facts hyps terms : List ℕ) → Listing facts hyps terms 0
-listing_start facts hyps terms = record { inside = omega arith; left = λ g hs k e. refl }
-
 module _ (facts hyps terms : List ℕ) (k : ℕ) (j : Listing facts hyps terms k) where
   pub listing_end : length hyps ≤ k → (g : ListsHyps facts hyps terms) (hs : Trees) → Each (sound.Has g.trees) hs → holds terms ≡ has (numbers g.trees hs) →
       true ≡ all (λ h. listed hs (entry g.S.facts h)) hyps

@@ -24,6 +24,7 @@ use Rattle.terms.specs.On.{Stopped}
 use Rattle.state.specs.declared.sizes.Sizes.{Sizes}
 use Rattle.questions.specs.declared.Row.{Row}
 use Rattle.questions.specs.Numbers.{row_number}
+use Rattle.state.specs.Boards.{HypPutBy}
 use Rattle.state.specs.Held.{Names, Records, records}
 use Rattle.state.specs.Rows.{Putting}
 use Rattle.state.specs.Used.{facts_now}
@@ -33,7 +34,7 @@ use Rattle.reading.specs.Given.{ReadsItem}
 use Rattle.reading.specs.Answers.{TermRead}
 use Rattle.reading.specs.Laws.Reading.{reads_ready, reads_item}
 use Rattle.forms.specs.Halted.{Halts}
-use Rattle.forms.specs.Assumed.{AddsFact, HypAdded, HypPutBy}
+use Rattle.forms.specs.Assumed.{AddsFact, HypAdded}
 use Rattle.forms.specs.Laws.Making.{Reached, reached_start, reached_went, reached_stopped, item_holds}
 use Rattle.forms.proofs.Assuming.{adding_ok, adding_full, putting}
 

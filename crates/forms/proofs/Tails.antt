@@ -100,8 +100,3 @@ module _ (used all : ℕ) {from : ℕ} (e : from ≡ min all (used + 1)) where
 
   pub behind_low : used ≤ all → used ≤ from
   behind_low h = omega (arith, e, le-min {k = used} {a = all} {b = used + 1} h (omega arith))
-
--- cells that were zero, cleared
-pub zero_again : {before : List ℕ} (out : List ℕ) {last : List ℕ} → before ≡ replicate (length before) 0 → length out ≡ length before →
-    last ≡ replicate (length out) 0 → last ≡ before
-zero_again out b k c = c ∙ ap (λ j. replicate j 0) k ∙ sym b

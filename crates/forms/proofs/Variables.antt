@@ -35,6 +35,7 @@ use Rattle.state.specs.Held.{VarsHeld}
 use Rattle.state.specs.Rows.{VarAt, Fits4}
 use Rattle.state.specs.VarLaws.{vars_long}
 use Rattle.forms.specs.Declares.{AddsVar, VarAdded}
+use Rattle.std.proofs.Math.Bool.{and_assoc}
 
 -- Names that are used ---------------------------------------------------------------------------------------------------------------
 
@@ -62,15 +63,11 @@ both_new {y = y} e t f = f ∙ ap (λ (w : Bool). w && y) (sym t ∙ e)
 pub one_old : {r x v : Bool} (y : Bool) → r ≡ x → r ≡ false → v ≡ r → v ≡ x && y
 one_old y e t f = f ∙ t ∙ ap (λ (w : Bool). w && y) (sym t ∙ e)
 
-together : (x y z : Bool) → (x && y) && z ≡ x && (y && z)
-together true y z = refl
-together false y z = refl
-
 pub all_new : {v r : Bool} (x y : Bool) {z : Bool} → v ≡ x && y → v ≡ true → r ≡ z → r ≡ x && (y && z)
-all_new x y {z} e t f = f ∙ ap (λ (w : Bool). w && z) (sym t ∙ e) ∙ together x y z
+all_new x y {z} e t f = f ∙ ap (λ (w : Bool). w && z) (sym t ∙ e) ∙ and_assoc x y z
 
 pub not_both : {v : Bool} (x y z : Bool) → v ≡ x && y → v ≡ false → v ≡ x && (y && z)
-not_both x y z e f = f ∙ ap (λ (w : Bool). w && z) (sym f ∙ e) ∙ together x y z
+not_both x y z e f = f ∙ ap (λ (w : Bool). w && z) (sym f ∙ e) ∙ and_assoc x y z
 
 -- The definition --------------------------------------------------------------------------------------------------------------------
 

@@ -1,4 +1,5 @@
 -- What the forms of hypotheses are given and what they answer, beside what the definition answers: K. Assumes nothing.
+use Rattle.state.specs.Records.{fact_rows}
 use Rattle.std.specs.Prelude.{◌≡◌, true, false, List, ℕ, ◌+◌, ◌<◌, ◌≤◌, ltb, length, Result, Ok, Err}
 use Rattle.std.proofs.lemmas.List.Edits.{sets}
 use Rattle.rules.specs.Limits.{FACTS, ENTRIES}
@@ -57,21 +58,12 @@ AssumedBy R Q n k I W J X old new S K (Err e) = Halts I W J X old S K (number_of
 -- whatever the footings are, which no hypothesis changes
 abbrev pub AssumedAs : Board → Board → List ℕ → Store → Store → State → Out State (Unit {0}) → Result (Unit {0}) Question → Type 0
 AssumedAs b c footings s t S K r =
-    AssumedBy (records b.facts.now footings b.lists.now) (records c.facts.now footings c.lists.now) b.n c.n
+    AssumedBy (records (fact_rows b.facts.now) footings b.lists.now) (records (fact_rows c.facts.now) footings c.lists.now) b.n c.n
     s.index.now s.words.now t.index.now t.words.now s.mark t.mark S K r
 
 -- What is stored last --------------------------------------------------------------------------------------------------------------
 
--- rows 12 and 13 of question 60, where its premises and generalised variables stand in the lists
-abbrev pub HypPutBy : Records → Records → Sizes → Sizes → ℕ → ℕ → ℕ → Result (Unit {0}) Row → Type 0
-HypPutBy R Q n k judgment premises general (Ok u) = HypothesisPut R Q n judgment premises general (Ok k.entries) × (k ≡ facts_now n (n.facts + 1) k.entries)
-HypPutBy R Q n k judgment premises general (Err e) = HypothesisPut R Q n judgment premises general (Err e) × (k ≡ n)
-
-abbrev pub HypPutAs : Board → Board → List ℕ → ℕ → ℕ → ℕ → Result (Unit {0}) Row → Type 0
-HypPutAs b c footings judgment premises general r =
-    HypPutBy (records b.facts.now footings b.lists.now) (records c.facts.now footings c.lists.now) b.n c.n judgment premises general r
-
--- with the variables behind the premises where there is room, and the tables as they were where there is none
+-- rows 12 and 13 of question 60, with the variables behind the premises where there is room, and the tables as they were where there is none
 abbrev pub RulePutBy : Records → Records → Sizes → Sizes → ℕ → ℕ → List ℕ → Result (Unit {0}) Row → Type 0
 RulePutBy R Q n k judgment premises general (Ok u) =
     HypothesisPut (records R.facts R.footings (sets R.lists (n.entries + 1 + premises) general)) Q n judgment premises (length general) (Ok k.entries)
@@ -82,4 +74,4 @@ RulePutBy R Q n k judgment premises general (Err r) =
 
 abbrev pub RulePutAs : Board → Board → List ℕ → ℕ → ℕ → List ℕ → Result (Unit {0}) Row → Type 0
 RulePutAs b c footings judgment premises general r =
-    RulePutBy (records b.facts.now footings b.lists.now) (records c.facts.now footings c.lists.now) b.n c.n judgment premises general r
+    RulePutBy (records (fact_rows b.facts.now) footings b.lists.now) (records (fact_rows c.facts.now) footings c.lists.now) b.n c.n judgment premises general r

@@ -1,12 +1,13 @@
--- The tables of a check as they are lent: what they hold, what a form is given, which of them it leaves as they were, and all of them at once for a state.
--- Assumes nothing.
-use Rattle.std.specs.Prelude.{◌≡◌, List, ℕ}
+-- The tables of a check as they are lent: what they hold, what a form is given, and all of them at once for a state. Which of them a form leaves as they
+-- were is said in `state/specs/Boards`. Assumes nothing.
+use Rattle.state.specs.Records.{fact_rows}
+use Rattle.std.specs.Prelude.{List, ℕ}
 use Rattle.rules.specs.State.{State}
 use Rattle.kernel.specs.Parsed.{TheoryLists, theory_lists}
 use Rattle.terms.specs.declared.store.Store.{Store}
 use Rattle.state.specs.declared.board.Given.{Given}
 use Rattle.state.specs.declared.board.Board.{Board}
-use Rattle.state.specs.Held.{Names, Records, records}
+use Rattle.state.specs.Held.{Names}
 use Rattle.state.specs.Stands.{Texts, texts, tables_of, Stands}
 use Rattle.reading.specs.Reader.{names_of, reader_of}
 use Rattle.forms.specs.Halted.{ReadsForm}
@@ -27,10 +28,6 @@ theory_of g = theory_lists g.sorts.now g.symbols.now g.inputs.now g.rules.rows.n
 abbrev pub names_in : Given → Board → Names
 names_in g b = names_of (reader_of g b)
 
--- the tables of facts
-abbrev pub records_of : Board → Records
-records_of b = records b.facts.now b.footings.now b.lists.now
-
 -- they stand for S
 abbrev pub StandsIn : Given → Board → Store → State → Type 0
 StandsIn g b s S = Stands (texts_of g) (theory_of g) (tables_of b s) b.n s.mark S
@@ -47,44 +44,7 @@ abbrev pub AddsGoalIn : Given → Board → Store → List ℕ → ℕ → Type 
 AddsGoalIn g b s cells least = AddsGoal (names_in g b) b.rows.now b.n s.index.now s.words.now s.mark cells least
 
 abbrev pub AddsFactIn : Given → Board → Store → List ℕ → ℕ → Type 0
-AddsFactIn g b s cells least = AddsFact (names_in g b) b.facts.now b.lists.now b.n s.index.now s.words.now s.mark cells least
+AddsFactIn g b s cells least = AddsFact (names_in g b) (fact_rows b.facts.now) b.lists.now b.n s.index.now s.words.now s.mark cells least
 
 abbrev pub TakesResultIn : Given → Board → Store → List ℕ → Type 0
-TakesResultIn g b s cells = TakesResult (names_in g b) b.rows.now b.facts.now b.lists.now b.n s.index.now s.words.now s.mark cells
-
--- What a form leaves -----------------------------------------------------------------------------------------------------------------
-
--- the references are those that were lent
-abbrev pub SameBoard : Board → Board → Type 0
-SameBoard b c =
-    (c.vars.ghost_name ≡ b.vars.ghost_name) × (c.defs.ghost_name ≡ b.defs.ghost_name) × (c.rows.ghost_name ≡ b.rows.ghost_name)
-    × (c.facts.ghost_name ≡ b.facts.ghost_name) × (c.footings.ghost_name ≡ b.footings.ghost_name) × (c.lists.ghost_name ≡ b.lists.ghost_name)
-
--- no table but that of variables has changed; but that of abbreviations; but that of goals
-abbrev pub OnlyVars : Board → Board → Type 0
-OnlyVars b c =
-    (c.defs.now ≡ b.defs.now) × (c.rows.now ≡ b.rows.now) × (c.facts.now ≡ b.facts.now) × (c.footings.now ≡ b.footings.now)
-    × (c.lists.now ≡ b.lists.now)
-
-abbrev pub OnlyDefs : Board → Board → Type 0
-OnlyDefs b c =
-    (c.vars.now ≡ b.vars.now) × (c.rows.now ≡ b.rows.now) × (c.facts.now ≡ b.facts.now) × (c.footings.now ≡ b.footings.now)
-    × (c.lists.now ≡ b.lists.now)
-
-abbrev pub OnlyRows : Board → Board → Type 0
-OnlyRows b c =
-    (c.vars.now ≡ b.vars.now) × (c.defs.now ≡ b.defs.now) × (c.facts.now ≡ b.facts.now) × (c.footings.now ≡ b.footings.now)
-    × (c.lists.now ≡ b.lists.now)
-
--- but those of goals and entries; of facts and entries; of facts, footings and entries; and of variables beside these
-abbrev pub OnlyGoals : Board → Board → Type 0
-OnlyGoals b c = (c.vars.now ≡ b.vars.now) × (c.defs.now ≡ b.defs.now) × (c.facts.now ≡ b.facts.now) × (c.footings.now ≡ b.footings.now)
-
-abbrev pub OnlyHyps : Board → Board → Type 0
-OnlyHyps b c = (c.vars.now ≡ b.vars.now) × (c.defs.now ≡ b.defs.now) × (c.rows.now ≡ b.rows.now) × (c.footings.now ≡ b.footings.now)
-
-abbrev pub OnlyFacts : Board → Board → Type 0
-OnlyFacts b c = (c.vars.now ≡ b.vars.now) × (c.defs.now ≡ b.defs.now) × (c.rows.now ≡ b.rows.now)
-
-abbrev pub OnlyFactsAndVars : Board → Board → Type 0
-OnlyFactsAndVars b c = (c.defs.now ≡ b.defs.now) × (c.rows.now ≡ b.rows.now)
+TakesResultIn g b s cells = TakesResult (names_in g b) b.rows.now (fact_rows b.facts.now) b.lists.now b.n s.index.now s.words.now s.mark cells

@@ -8,9 +8,10 @@ ghost use Rattle.questions.specs.Numbers.{text_number};
 ghost use Rattle.kernel.specs.Held.{SymbolsHeld};
 ghost use Rattle.kernel.specs.Readers.{NamedSymbols};
 ghost use Rattle.terms.specs.Lent.{SameTables};
+ghost use Rattle.state.specs.Boards.{SameBoard, OnlyVars, OnlyDefs};
 ghost use Rattle.state.specs.Held.{VarsHeld};
 ghost use Rattle.state.specs.Rows.{SomeVars};
-ghost use Rattle.forms.specs.Boards.{AddsVarIn, ReadsFormIn, SameBoard, OnlyVars, OnlyDefs};
+ghost use Rattle.forms.specs.Boards.{AddsVarIn, ReadsFormIn};
 ghost use Rattle.forms.specs.Declares.{VarAs, NamedAs, DefAs};
 
 use cells::Span;

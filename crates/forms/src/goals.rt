@@ -7,7 +7,8 @@ ghost use Rattle.rules.specs.Tags.{a_goal, a_goal_with};
 ghost use Rattle.rules.specs.Tree.{Tree, Trees, count_trees};
 ghost use Rattle.rules.specs.Forms.{goal, add_goal};
 ghost use Rattle.terms.specs.Lent.{SameTables};
-ghost use Rattle.forms.specs.Boards.{AddsGoalIn, SameBoard, OnlyRows, OnlyGoals};
+ghost use Rattle.state.specs.Boards.{SameBoard, OnlyRows, OnlyGoals};
+ghost use Rattle.forms.specs.Boards.{AddsGoalIn};
 ghost use Rattle.forms.specs.Goals.{GoalPlace, PlacedAs, AimedAs};
 
 use crate::stating::{Stated, read_stated};

@@ -1,15 +1,17 @@
 // `(hyp N JUDGMENT)` and `(hyp N (PREMISE...) JUDGMENT (VAR...))`: facts that are assumed, each resting on itself.
-ghost use Rattle.std.specs.Prelude.{◌≡◌, List, ℕ, ◌+◌, ◌*◌, ◌^◌, ◌<◌, ◌≤◌, length, replicate};
+ghost use Rattle.state.specs.Records.{fact_rows};
+ghost use Rattle.std.specs.Prelude.{◌≡◌, List, ℕ, ◌*◌, ◌≤◌, length, replicate};
 ghost use Rattle.rules.specs.Limits.{VARIABLES, FACTS};
 ghost use Rattle.rules.specs.Sexp.{item, count};
 ghost use Rattle.rules.specs.Forms.{add_hyp, add_rule_hyp};
 ghost use Rattle.terms.specs.Lent.{SameTables};
+ghost use Rattle.state.specs.Boards.{SameBoard, OnlyHyps};
 ghost use Rattle.state.specs.Held.{records};
 ghost use Rattle.state.specs.Rows.{Putting};
 ghost use Rattle.reading.specs.Given.{VarsItems};
 ghost use Rattle.reading.specs.Answers.{VarsAs};
-ghost use Rattle.forms.specs.Boards.{AddsFactIn, SameBoard, OnlyHyps};
-ghost use Rattle.forms.specs.Assumed.{AssumedAs, HypPutAs, RulePutAs};
+ghost use Rattle.forms.specs.Boards.{AddsFactIn};
+ghost use Rattle.forms.specs.Assumed.{AssumedAs, RulePutAs};
 
 use crate::stating::read_stated;
 use cells::{clear, write};
@@ -18,27 +20,7 @@ use reading::reader::reader_of;
 use rules::{ENTRIES, FACTS, VARIABLES};
 use sexp::items;
 use state::board::{Board, Given};
-use state::facts::put_hypothesis;
 use terms::store::Store;
-
-// A hypothesis behind the others; its premises and generalised variables stand behind its own entry already, as far as there is room.
-fn put_behind(
-    board: &mut Board<'_>,
-    judgment: usize,
-    premises: usize,
-    general: usize,
-) -> Result<(), Row>
-    requires { ((footings : List ℕ) × Putting (records board.old.facts.now footings board.old.lists.now) board.old.n judgment) × (premises + general < 2 ^ 32) }
-    ensures same_board { SameBoard board.old board.new }
-    ensures only { OnlyHyps board.old board.new }
-    ensures put_as { (footings : List ℕ) → length footings ≡ 4 * FACTS → HypPutAs board.old board.new footings judgment premises general result }
-{
-    let n = board.n;
-    let entries = put_hypothesis(board.facts, board.lists, n, judgment, premises, general)?;
-    board.n.facts += 1;
-    board.n.entries = entries;
-    Ok(())
-}
 
 // `(hyp N JUDGMENT)`, by the items of the form.
 pub fn add_hyp(
@@ -57,7 +39,7 @@ pub fn add_hyp(
     // a copy, whose references may be lent for as short as the board's
     let own = *given;
     let judgment = reader_of(&own, board).judgment(store, &cells[at..])?;
-    put_behind(board, judgment, 0, 0)?;
+    board.put_hypothesis(judgment, 0, 0)?;
     Ok(())
 }
 
@@ -87,7 +69,7 @@ fn put_rule(
     premises: usize,
     general: &[u32],
 ) -> Result<(), Row>
-    requires { (footings : List ℕ) × Putting (records board.old.facts.now footings board.old.lists.now) board.old.n judgment }
+    requires { (footings : List ℕ) × Putting (records (fact_rows board.old.facts.now) footings board.old.lists.now) board.old.n judgment }
     ensures same_board { SameBoard board.old board.new }
     ensures only { OnlyHyps board.old board.new }
     ensures put_as { (footings : List ℕ) → length footings ≡ 4 * FACTS → RulePutAs board.old board.new footings judgment premises general.now result }
@@ -110,7 +92,7 @@ fn put_rule(
     }
     let at = from + premises;
     write(&mut board.lists[at..], general);
-    put_behind(board, judgment, premises, many)
+    board.put_hypothesis(judgment, premises, many)
 }
 
 // `(hyp N (PREMISE...) JUDGMENT (VAR...))`, by the items of the form.

@@ -1,4 +1,5 @@
 // `(result NAME REF)`: questions 50 to 52. A goal's result has come.
+ghost use Rattle.state.specs.Records.{fact_rows};
 ghost use Rattle.std.specs.Prelude.{◌≡◌, ◌&&◌, ◌*◌, ◌<◌, length, replicate};
 ghost use Rattle.rules.specs.Limits.{TERMS};
 ghost use Rattle.rules.specs.Find.{entry, all, has};
@@ -9,35 +10,37 @@ ghost use Rattle.rules.specs.Laws.Keeping.{Each};
 ghost use Rattle.rules.specs.Laws.Sound.{sound};
 ghost use Rattle.terms.specs.Lent.{SameTables};
 ghost use Rattle.terms.specs.Sets.{holds};
+ghost use Rattle.state.specs.Boards.{SameBoard, OnlyRows};
 ghost use Rattle.state.specs.Rows.{cell, FactAt, plain_row};
 ghost use Rattle.referring.specs.Recall.{fact_of};
-ghost use Rattle.forms.specs.Boards.{TakesResultIn, SameBoard, OnlyRows};
+ghost use Rattle.forms.specs.Boards.{TakesResultIn};
 ghost use Rattle.forms.specs.Results.{goal_of, ListsHyps, Covers, MetAs, ResultedAs};
 
 use cells::Span;
+use facts::Fact;
 use questions::Question;
 use referring::references::insert_all;
 use referring::source::{Facts, source_of};
 use rules::TERMWORDS;
 use sexp::items;
 use state::board::{Board, Given};
-use state::facts::{is_plain, judgment};
 use state::goals::{goal_hyps, goal_judgment, goal_named, is_taken, take_goal};
+use state::recorded::{is_plain, judgment};
 use terms::sets::has;
 use terms::store::Store;
 
 // Whether fact h is a plain hypothesis, with a judgment of the set.
-fn is_listed(facts: &[u32], h: usize, terms: &[u64]) -> bool
-    requires { FactAt facts.now h × (cell 6 facts.now h 0 < 64 * length terms.now) }
-    ensures { result ≡ plain_row facts.now h && holds terms.now (cell 6 facts.now h 0) }
+fn is_listed(facts: &[Fact], h: usize, terms: &[u64]) -> bool
+    requires { FactAt (fact_rows facts.now) h × (cell 6 (fact_rows facts.now) h 0 < 64 * length terms.now) }
+    ensures { result ≡ plain_row (fact_rows facts.now) h && holds terms.now (cell 6 (fact_rows facts.now) h 0) }
 {
     is_plain(facts, h) && has(terms, judgment(facts, h))
 }
 
 // Whether each of the hypotheses is plain, with a judgment of the set.
-fn all_listed(facts: &[u32], hyps: &[u32], terms: &[u64]) -> bool
-    requires { ListsHyps facts.now hyps.now terms.now }
-    ensures { ((g : ListsHyps facts.now hyps.now terms.now) (hs : Trees) → Each (sound.Has g.trees) hs →
+fn all_listed(facts: &[Fact], hyps: &[u32], terms: &[u64]) -> bool
+    requires { ListsHyps (fact_rows facts.now) hyps.now terms.now }
+    ensures { ((g : ListsHyps (fact_rows facts.now) hyps.now terms.now) (hs : Trees) → Each (sound.Has g.trees) hs →
         holds terms.now ≡ has (numbers g.trees hs) → result ≡ all (λ h. listed hs (entry g.S.facts h)) hyps.now) }
 {
     for h in hyps {
@@ -50,14 +53,14 @@ fn all_listed(facts: &[u32], hyps: &[u32], terms: &[u64]) -> bool
 
 // Question 51: whether goal k lists each hypothesis of fact i, on which a reference rests that names it bare.
 fn covers(facts: &Facts<'_>, goals: &[u32], k: usize, i: usize) -> bool
-    requires { Covers goals.now facts.now.rows.now facts.now.lists.now k i }
-    ensures { (g : Covers goals.now facts.now.rows.now facts.now.lists.now k i) →
+    requires { Covers goals.now (fact_rows facts.now.records.now) facts.now.lists.now k i }
+    ensures { (g : Covers goals.now (fact_rows facts.now.records.now) facts.now.lists.now k i) →
         result ≡ all (λ h. listed (goal_of g.S k).hyps (entry g.S.facts h)) (fact_of g.S i).hyps }
 {
     let mut terms = [0u64; TERMWORDS];
     let Span { from, end } = goal_hyps(goals, k);
     insert_all(&facts.lists[from..end], &mut terms);
-    all_listed(facts.rows, facts.hyps(i), &terms)
+    all_listed(facts.records, facts.hyps(i), &terms)
 }
 
 // The goal whose result has come, by the items of the form. `memo` is scratch: zero before and after.

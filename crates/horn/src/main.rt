@@ -8,7 +8,7 @@ use tabled::answers::answer;
 
 fn run(rt: &HostRuntime) -> io::Result<()> {
     match load_texts(rt) {
-        Ok(texts) => rt.println(Line(answer(&texts.theory, &texts.goals, &texts.proof))),
+        Ok(files) => rt.println(Line(answer(&files.texts()))),
         Err(error) => error.write("horn", &mut rt.stderr()),
     }
 }

@@ -2,26 +2,21 @@
 // goals without a result that 53 lists.
 #![tactic(auto)]
 
-use printing::load::{Texts, load_texts};
+use printing::load::load_texts;
+use running::texts::Texts;
 use std::io;
 use std::io::{BufWriter, Write};
 use tabled::told::tell;
 
-fn write_facts(rt: &HostRuntime, texts: &Texts) -> io::Result<()> {
+fn write_facts(rt: &HostRuntime, texts: &Texts<'_>) -> io::Result<()> {
     let mut out = BufWriter::new(rt.alloc(), rt.stdout())?;
-    tell(
-        rt.alloc(),
-        &texts.theory,
-        &texts.goals,
-        &texts.proof,
-        &mut out,
-    )?;
+    tell(rt.alloc(), texts, &mut out)?;
     out.flush()
 }
 
 fn run(rt: &HostRuntime) -> io::Result<()> {
     match load_texts(rt) {
-        Ok(texts) => write_facts(rt, &texts),
+        Ok(files) => write_facts(rt, &files.texts()),
         Err(error) => error.write("horn_facts", &mut rt.stderr()),
     }
 }

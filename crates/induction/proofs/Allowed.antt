@@ -21,7 +21,7 @@ use Rattle.rules.specs.State.{Fact, is_plain}
 use Rattle.rules.specs.StateTables.{numbers}
 use Rattle.rules.specs.Induct.{motive_vars, Hyp, allowed_plain, allowed_rule, allowed_hyp}
 use Rattle.rules.specs.Laws.Theory.{All, both, all_at}
-use Rattle.terms.specs.Table.{made, tree}
+use Rattle.terms.specs.Table.{Below, made, tree}
 use Rattle.terms.specs.Sets.{holds}
 use Rattle.terms.specs.Laws.Growth.{made_length}
 use Rattle.terms.specs.Laws.Numbers.{same_number}
@@ -35,7 +35,6 @@ use Rattle.questions.specs.declared.Question.TheVariants.{Earlier, CaseJudgment}
 use Rattle.questions.specs.Numbers.{number_of, detail_of}
 use Rattle.referring.specs.Recall.{fact_of}
 use Rattle.referring.specs.Laws.Refers.{fact_found, fact_none, fact_asks}
-use Rattle.referring.specs.Substitutes.{Below}
 use Rattle.induction.specs.Inducing.{hyps_in, row_among, plain_at, Resting, case_fact}
 use Rattle.induction.proofs.Rests.{other, rows_are}
 

@@ -1,11 +1,9 @@
 -- A case behind its variables: the motive at the constructor, the induction hypotheses, then the questions of its fact. Assumes nothing.
 use mathlib.Core.Path.{◌≡◌, refl, sym, ap, ◌∙◌, subst}
-use mathlib.Core.List.{List, [], ◌∷◌, ◌++◌}
+use mathlib.Core.List.{List, ◌++◌}
 use Prim.Native.Nat.{ℕ, suc, ◌*◌, ◌<◌, ◌≤◌}
 use native.Mathlib.Omega.{arith}
 use Rattle.std.proofs.Math.Nat.{mul-le-mul_right}
-use lib.Dec.{eqb}
-use borrow.Author.Tests.{eq-eqb, ne_eqb}
 use lib.ListN.{length, take, drop, replicate, length-drop, length-replicate, length-append}
 use lib.Seq.{take_at, length-take-le}
 use Rattle.rules.specs.Limits.{TERMS, TERMWORDS}
@@ -13,10 +11,9 @@ use Rattle.rules.specs.Out.{Out, then}
 use Rattle.rules.specs.Find.{Set, has, union}
 use Rattle.rules.specs.Tree.{Trees, among}
 use Rattle.rules.specs.Store.{Made}
-use Rattle.rules.specs.State.{is_none}
 use Rattle.rules.specs.Induct.{Motive, hypotheses}
 use Rattle.terms.specs.declared.store.Mark.{Mark}
-use Rattle.terms.specs.Table.{made, tree, args_of}
+use Rattle.terms.specs.Table.{Below, made, tree, args_of}
 use Rattle.terms.specs.Sets.{holds}
 use Rattle.terms.specs.On.{Stopped, On, on_start, on_is, on_ok, on_no, on_done, on_refused}
 use Rattle.terms.specs.Laws.Growth.{grown_tree, grown_args, grown_there, grown_trans}
@@ -25,17 +22,13 @@ use Rattle.state.specs.declared.sizes.Sizes.{Sizes}
 use Rattle.state.specs.Growth.{recorded_on}
 use Rattle.std.specs.Prelude.{Result, Ok, Err}
 use Rattle.questions.specs.declared.Question.{Question}
-use Rattle.referring.specs.Substitutes.{Below}
-use Rattle.referring.specs.Laws.Substitutes.{below_grown}
-use Rattle.induction.specs.Inducing.{Roomy, PassedBy, motive_in, Moved, Casing, at_constructor, hyps_in, HypsMade, BeforeRest, case_fact, asked, case_terms, InCase}
+use Rattle.terms.specs.Laws.Below.{below_grown}
+use Rattle.induction.specs.Inducing.{Roomy, motive_in, Moved, Casing, at_constructor, hyps_in, HypsMade, BeforeRest, case_fact, asked, case_terms, InCase}
+use Rattle.reading.specs.Answers.{PassedBy}
 use Rattle.induction.proofs.Inducts.{among_has}
 use Rattle.induction.proofs.Supposes.{hyps_front, motive_on}
 use Rattle.referring.specs.Laws.Sounds.{grown_grows}
-
-pub none_cells : (M : Made) (xs : List ℕ) → is_none (args_of M xs) ≡ eqb (length xs) 0
-unfolding is_none args_of
-none_cells M [] = sym (eq-eqb 0 0 refl)
-none_cells M (x ∷ xs) = sym (ne_eqb (suc (length xs)) 0 (λ e. omega arith))
+use Rattle.terms.specs.Laws.Below.{none_args}
 
 -- the last questions are the answer
 passed : {I W J X : List ℕ} {old now : Mark} {K L : Out Made (Unit {0})} (r : Result (Unit {0}) Question) → On I W old K J X now L → L ≡ asked r (made J X now) →
@@ -62,9 +55,6 @@ module _ {facts lists : List ℕ} {n : Sizes} {I W : List ℕ} {m : Mark} {x sor
 
     pub back_long : length (last ++ drop (length premises) ids) ≡ length ids
     back_long = omega (arith, length-append last (drop (length premises) ids), length-drop (length premises) ids, last_long, end_width)
-
-    pub back_count : length premises ≡ length (take (length premises) (last ++ drop (length premises) ids))
-    back_count = sym (ap length back_front ∙ last_long)
 
     pub end_stopped : {q d : ℕ} → Stopped I W J X m (at_constructor (motive_in (made I W m) x sort j premises) c own (made I W m)) q d new →
         (h : InCase facts lists n I W m x sort j premises used) (i : ℕ) →
@@ -140,7 +130,7 @@ module _ {facts lists : List ℕ} {n : Sizes} {I W : List ℕ} {m : Mark} {x sor
                   recorded = recorded_on (grown_grows (grown_trans moved.went.grown supposed.went.grown)) h.recorded;
                   good = supposed.went.grown.good;
                   variable_is = refl;
-                  premises_are = none_cells (made I W m) premises;
+                  premises_are = none_args (made I W m) premises;
                   used_are = h.used_are;
                   wide = h.wide;
                   plain_are = plain_right plain q;

@@ -18,9 +18,8 @@ use Rattle.rules.specs.State.{State}
 use Rattle.rules.specs.Induct.{Motive, motive_vars, induct_case, induct_cases}
 use Rattle.rules.specs.Laws.Find.{first_some}
 use Rattle.sexp.specs.Encode.{encodes}
-use Rattle.sexp.specs.Items.{Holds, Items}
-use Rattle.sexp.specs.ItemLaws.{More}
-use Rattle.sexp.specs.WalkLaws.{Walk, walk_start, walk_more, walk_over, walk_rest}
+use Rattle.sexp.specs.Items.{Holds}
+use Rattle.sexp.specs.WalkLaws.{Walk, walk_start, walk_over}
 use Rattle.sexp.specs.FoundLaws.{found_at, found_missing}
 use Rattle.kernel.specs.Held.{SymbolsHeld}
 use Rattle.kernel.specs.SignatureRows.{symbols_few}
@@ -37,11 +36,12 @@ use Rattle.std.specs.Prelude.{Result, Ok, Err}
 use Rattle.questions.specs.declared.Question.{Question}
 use Rattle.sexp.specs.Each.{Here}
 use Rattle.sexp.specs.declared.items.Each.{Each}
-use Rattle.referring.specs.Laws.Substitutes.{below_grown}
-use Rattle.induction.specs.Inducing.{PassedBy, motive_in, Motived, Casing, case_terms, InCase, CaseItem, CaseRead, CaseItems, on_motive, MotiveItems}
-use Rattle.induction.proofs.CaseNames.{walk_behind}
+use Rattle.terms.specs.Laws.Below.{below_grown}
+use Rattle.induction.specs.Inducing.{motive_in, Motived, Casing, case_terms, InCase, CaseItem, CaseRead, CaseItems, on_motive, MotiveItems}
+use Rattle.reading.specs.Answers.{PassedBy}
 use Rattle.induction.proofs.Supposes.{motive_on}
 use Rattle.referring.specs.Laws.Sounds.{grown_grows}
+use Rattle.reading.specs.Laws.Walks.{walk_next, Here as Item, here}
 
 -- The constructors from a number on --------------------------------------------------------------------------------------------------------
 
@@ -111,11 +111,8 @@ module _ {K : Names} {facts footings lists : List ℕ} {n : Sizes} {I W : List �
         (ap (λ (zs : Sexps). induct_cases g.S (motive_in (made I W old) x sort j premises) zs (onward g.S.theory sort from) (made J X now)) (walk_over h.walk l)))
 
     module _ {part : List ℕ} {next : Each} (w : Here cells part at next) where
-      pub one : More h.zs
-      one = walk_more h.walk w.inside
-
-      pub here : Walk K.text cells at (cons one.first one.others)
-      here = subst (λ (z : Sexps). Walk K.text cells at z) one.is h.walk
+      pub one : Item K.text cells at h.zs
+      one = here h.walk w.inside
 
       module _ {r : Option ℕ} (a : (T : Theory) (text ins : List ℕ) → SymbolsHeld text K.symbols ins n.symbols T.symbols → r ≡ (next_constructor T sort from)) where
         told : r ≡ (next_constructor g.S.theory sort from)
@@ -143,16 +140,16 @@ module _ {K : Names} {facts footings lists : List ℕ} {n : Sizes} {I W : List �
               record {
                 S = g.S;
                 trees = made J X now;
-                y = one.first;
-                ys = one.others;
+                y = one.x;
+                ys = one.ys;
                 spelling = (refers_on g.refers (grown_grows h.on.grown) h.on.grown.good).reads.spelling;
                 wide = g.wide;
-                items = subst (λ (z : List ℕ). Holds K.text z (cons one.first one.others)) (sym w.is) (walk_rest here);
+                items = subst (λ (z : List ℕ). Holds K.text z (cons one.x one.ys)) (sym w.is) one.holds;
               }
 
           split : On I W old whole J X now
-              (then (induct_case g.S (motive_in (made I W old) x sort j premises) one.first c (made J X now))
-              (λ z U. induct_cases g.S (motive_in (made I W old) x sort j premises) one.others (onward g.S.theory sort (c + 1)) U))
+              (then (induct_case g.S (motive_in (made I W old) x sort j premises) one.x c (made J X now))
+              (λ z U. induct_cases g.S (motive_in (made I W old) x sort j premises) one.ys (onward g.S.theory sort (c + 1)) U))
           unfolding induct_cases
           split =
               on_is h.on
@@ -165,7 +162,7 @@ module _ {K : Names} {facts footings lists : List ℕ} {n : Sizes} {I W : List �
 
           module _ {i d : ℕ} {own sorts : List ℕ}
               (b : (k : CaseItem K n used part) (M : Motive) → holds used ≡ motive_vars M → CaseRead k.S M k.y c i own sorts × (d ≡ c)) where
-            read : CaseRead g.S (motive_in (made I W old) x sort j premises) one.first c i own sorts
+            read : CaseRead g.S (motive_in (made I W old) x sort j premises) one.x c i own sorts
             read = (b cases_item (motive_in (made I W old) x sort j premises) g.used_are).0
 
             same : d ≡ c
@@ -187,12 +184,12 @@ module _ {K : Names} {facts footings lists : List ℕ} {n : Sizes} {I W : List �
 
             cased : On I W old whole J X now
                 (then (case_terms g.S (motive_in (made J X now) x sort j premises) i d own sorts (made J X now))
-                (λ z U. induct_cases g.S (motive_in (made I W old) x sort j premises) one.others (onward g.S.theory sort (c + 1)) U))
+                (λ z U. induct_cases g.S (motive_in (made I W old) x sort j premises) one.ys (onward g.S.theory sort (c + 1)) U))
             cased =
                 on_is split
                 (λ k. then ((read.is (made J X now)
                 ∙ (λ l. case_terms g.S (sym (motive_on sort h.on.grown g.motived) l) i (sym same l) own sorts (made J X now))) k)
-                (λ z U. induct_cases g.S (motive_in (made I W old) x sort j premises) one.others (onward g.S.theory sort (c + 1)) U))
+                (λ z U. induct_cases g.S (motive_in (made I W old) x sort j premises) one.ys (onward g.S.theory sort (c + 1)) U))
 
             module _ (Y Z : List ℕ) (new : Mark) where
               pub cases_stopped : {q e : ℕ} →
@@ -205,15 +202,12 @@ module _ {K : Names} {facts footings lists : List ℕ} {n : Sizes} {I W : List �
                   ((k : InCase facts lists n J X now x sort j premises used) →
                   Went J X Y Z now (case_terms k.S (motive_in (made J X now) x sort j premises) i d own sorts (made J X now)) tt new) →
                   CasesLeft g.S g.xs K.text I W old x sort j premises cells Y Z new (c + 1) next.at
-              cases_again f = record { zs = one.others; walk = walk_behind here w.behind; on = on_ok _ cased (f cases_in) }
+              cases_again f = record { zs = one.ys; walk = walk_next one.walk w.behind; on = on_ok _ cased (f cases_in) }
 
 -- The questions before -----------------------------------------------------------------------------------------------------------------------
 
 module _ {K : Names} {facts footings lists : List ℕ} {n : Sizes} {I W : List ℕ} {m : Mark} {x j : ℕ} {premises cells : List ℕ}
     (g : MotiveItems K facts footings lists n I W m x j premises cells) where
-  pub motive_items : Items cells
-  motive_items = (g.xs, g.items.cells)
-
   module _ (sort : ℕ) where
     abbrev pub asked : Out Made (Unit {0})
     asked = on_motive g.S (motive_in (made I W m) x sort j premises) g.xs (made I W m)

@@ -17,9 +17,8 @@ use Rattle.rules.specs.Find.{Set, has}
 use Rattle.rules.specs.Store.{Made}
 use Rattle.rules.specs.State.{State, Var, sort_of_var}
 use Rattle.rules.specs.Induct.{Motive, motive_vars, case_vars}
-use Rattle.sexp.specs.Items.{Holds, item_at, behind}
-use Rattle.sexp.specs.ItemLaws.{More, At, at_next, item_here, behind_item}
-use Rattle.sexp.specs.Encode.{encode}
+use Rattle.sexp.specs.Items.{Holds}
+use Rattle.sexp.specs.ItemLaws.{More}
 use Rattle.sexp.specs.WalkLaws.{Walk, walk_start, walk_more, walk_over, walk_rest}
 use Rattle.sexp.specs.FoundLaws.{found_at, found_missing}
 use Rattle.terms.specs.Sets.{holds, plus}
@@ -31,17 +30,11 @@ use Rattle.reading.specs.Laws.Lists.{variable_below}
 use Rattle.reading.specs.Items.{FirstItem, variable_in, variable_found}
 use Rattle.sexp.specs.Each.{Here}
 use Rattle.sexp.specs.declared.items.Each.{Each}
-use Rattle.referring.specs.Substitutes.{Below}
-use Rattle.referring.specs.Laws.Substitutes.{below_snoc}
+use Rattle.terms.specs.Table.{Below}
+use Rattle.terms.specs.Laws.Below.{below_snoc}
+use Rattle.reading.specs.Laws.Walks.{walk_next}
 use Rattle.induction.specs.Inducing.{CaseNames, Named}
-
--- the place behind an item
-module _ {text words : List ℕ} {at : ℕ} {x : Sexp} {ys : Sexps} (k : Walk text words at (cons x ys)) {next : ℕ} (e : next ≡ behind at (item_at words at)) where
-  next_is : next ≡ at + length (encode x)
-  next_is = e ∙ ap (behind at) (item_here x k.here) ∙ behind_item at x
-
-  pub walk_behind : Walk text words next ys
-  walk_behind = record { here = subst (λ (z : ℕ). At words z ys) (sym next_is) (at_next k.here); spelt = k.spelt.1 }
+use Rattle.sexp.specs.FirstItem.{count_more}
 
 has_snoc : (xs : List ℕ) (v w : ℕ) → has (xs ++ (v ∷ [])) w ≡ (has xs w || eqb w v)
 unfolding has
@@ -95,10 +88,6 @@ names_start e g =
       wide = length-replicate {A = ℕ} VARIABLEWORDS 0;
     }
 
-count_cons : (x : Sexp) (xs zs : Sexps) → zs ≡ cons x xs → count zs ≡ suc (count xs)
-unfolding count
-count_cons x xs zs e = ap count e
-
 module _ {goals text vars : List ℕ} {n : ℕ} {sorts used cells : List ℕ} (g : CaseNames goals text vars n sorts used cells) {out seen : List ℕ} {k at : ℕ}
     (h : NamesLeft g.S g.xs text sorts used cells out seen k at) where
   pub names_done : length cells ≤ at → (M : Motive) → holds used ≡ motive_vars M → Named (case_vars g.S M g.xs sorts []) (length sorts) out
@@ -120,7 +109,7 @@ module _ {goals text vars : List ℕ} {n : ℕ} {sorts used cells : List ℕ} (g
     here = subst (λ (z : Sexps). Walk text cells at z) item.is h.walk
 
     pub names_place : k < length sorts
-    names_place = omega (arith, h.many, count_cons item.first item.others h.zs item.is)
+    names_place = omega (arith, h.many, count_more item.first item.others h.zs item.is)
 
     pub names_room : k < length out
     names_room = omega (arith, names_place, g.few, h.long)
@@ -216,8 +205,8 @@ module _ {goals text vars : List ℕ} {n : ℕ} {sorts used cells : List ℕ} (g
                   let o : take (k + 1) (set out k v) ≡ take k out ++ (v ∷ []) = ap (λ (i : ℕ). take i (set out k v)) (add-one k) ∙ take-suc-set out k v names_room in
                   record {
                     zs = item.others;
-                    walk = walk_behind here w.behind;
-                    many = omega (arith, h.many, count_cons item.first item.others h.zs item.is);
+                    walk = walk_next here w.behind;
+                    many = omega (arith, h.many, count_more item.first item.others h.zs item.is);
                     on = λ M q U.
                         tested M q U
                         ∙ ap (λ (b : Bool). then (ask 42 b U) (λ z B. case_vars g.S M item.others (drop (suc k) sorts) (take k out ++ (v ∷ [])) B))

@@ -11,7 +11,7 @@ use lib.Seq.{ext_get_or, get_or-take, get_or-drop, length-take-le}
 use borrow.Author.Tests.{eq-eqb, ne_eqb}
 use Rattle.rules.specs.Limits.{ARGUMENTS}
 use Rattle.rules.specs.Out.{Out, ok, refuse, then, found, ask}
-use Rattle.rules.specs.Sexp.{Sexp, Sexps, list, nil, cons, count, item, rest, items}
+use Rattle.rules.specs.Sexp.{Sexp, Sexps, list, cons, count, item, rest, items}
 use Rattle.rules.specs.Tree.{Tree, app, single}
 use Rattle.rules.specs.Store.{Made, keep, substitute, substitutes}
 use Rattle.rules.specs.Theory.{Theory, no_symbol, inputs}
@@ -34,8 +34,9 @@ use Rattle.terms.specs.Sets.{holds}
 use Rattle.state.specs.declared.sizes.Sizes.{Sizes}
 use Rattle.state.specs.Held.{Names}
 use Rattle.reading.specs.Items.{FirstItem, index_in, index_found}
+use Rattle.reading.specs.Laws.Walks.{walk_next}
 use Rattle.induction.specs.Inducing.{judgment_first, keep_case, at_constructor, case_fact, case_terms, CaseNames, Named, CaseItem, CaseRead}
-use Rattle.induction.proofs.CaseNames.{walk_behind}
+use Rattle.rules.specs.Laws.Sexp.{rest_none}
 
 -- The definition --------------------------------------------------------------------------------------------------------------------------
 
@@ -74,11 +75,6 @@ first_of y ys = refl
 rest_of : (y : Sexp) (ys : Sexps) → rest (cons y ys) 1 ≡ rest ys 0
 unfolding rest
 rest_of y ys = refl
-
-rest_none : (ys : Sexps) → rest ys 0 ≡ ys
-unfolding rest
-rest_none nil = refl
-rest_none (cons x xs) = refl
 
 -- One case ---------------------------------------------------------------------------------------------------------------------------------
 
@@ -187,7 +183,7 @@ module _ {K : Names} {n : Sizes} {used cells : List ℕ} (c : ℕ) (g : CaseItem
                     (λ vs E. case_terms g.S M i c vs (sym sorts_are q) E))
 
                 pub behind_walk : Walk K.text (take (b - a) (drop a cells)) next begins.others
-                behind_walk = walk_behind (walk_start holds_some) v
+                behind_walk = walk_next (walk_start holds_some) v
 
                 pub behind_high : next ≤ length (take (b - a) (drop a cells))
                 behind_high = behind_walk.here.high

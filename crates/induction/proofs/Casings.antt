@@ -16,15 +16,16 @@ use Rattle.rules.specs.Laws.Out.{then_then}
 use Rattle.questions.specs.Numbers.{row_number}
 use Rattle.questions.specs.declared.Row.{Row}
 use Rattle.terms.specs.declared.store.Mark.{Mark}
-use Rattle.terms.specs.Table.{made, tree, tree_at, args_of, Node, Shaped, is_app, Stored, Refused, After}
+use Rattle.terms.specs.Table.{Below, made, tree, tree_at, args_of, Node, Shaped, is_app, Stored, Refused, After}
 use Rattle.terms.specs.Subst.{replacement}
 use Rattle.terms.specs.On.{Stopped, On, on_start, on_is, on_ok, on_no, stored_went, refused_stopped}
 use Rattle.terms.specs.Laws.Answers.{after_term, after_full}
 use Rattle.terms.specs.Laws.Growth.{grown_tree, grown_args, grown_there, grown_trans}
 use Rattle.terms.specs.Laws.Numbers.{stored_is}
 use Rattle.terms.specs.Laws.Tables.{tree_app}
-use Rattle.referring.specs.Substitutes.{Below, Replaceables}
-use Rattle.referring.specs.Laws.Substitutes.{below_none, below_snoc, below_grown, ahead, ahead_none, ahead_snoc, ahead_grown}
+use Rattle.referring.specs.Substitutes.{Replaceables}
+use Rattle.terms.specs.Laws.Below.{below_none, below_snoc, below_grown, ahead, ahead_none, ahead_snoc}
+use Rattle.referring.specs.Laws.Substitutes.{ahead_grown}
 use Rattle.induction.specs.Inducing.{motive_in, Motived, MovedBy, judgment_first, premises_first, var_trees, keep_case, Casing, at_constructor}
 use Rattle.induction.proofs.Moves.{moved_on, only, one_cell, one_bound}
 

@@ -27,7 +27,7 @@ use Rattle.sexp.specs.WalkLaws.{Walk, ListIs, walk_start, walk_atom, walk_list}
 use Rattle.sexp.specs.declared.items.Item.{Item}
 use Rattle.sexp.specs.declared.items.Item.TheVariants.{Atom, List as Part}
 use Rattle.terms.specs.declared.store.Mark.{Mark}
-use Rattle.terms.specs.Table.{made, tree, args_of}
+use Rattle.terms.specs.Table.{Below, made, tree, args_of}
 use Rattle.terms.specs.Sets.{holds}
 use Rattle.terms.specs.On.{Went, Stopped, On, on_start, on_is, on_ok, on_no, on_pure, on_stop, on_went, on_stopped, on_done}
 use Rattle.terms.specs.Laws.Growth.{made_length, grown_tree, grown_there}
@@ -46,10 +46,10 @@ use Rattle.std.specs.Prelude.{Result, Ok, Err}
 use Rattle.referring.specs.declared.support.Derived.{Derived}
 use Rattle.referring.specs.Derived.{DerivedRead, DerivedBy, alone}
 use Rattle.referring.specs.Laws.Refers.{refers_on}
-use Rattle.referring.specs.Substitutes.{Below}
-use Rattle.referring.specs.Laws.Substitutes.{below_grown}
-use Rattle.induction.specs.Inducing.{motive_in, Motived, judgment_cells, on_motive, MotiveItems, InductForm}
-use Rattle.induction.proofs.CaseNames.{walk_behind}
+use Rattle.terms.specs.Laws.Below.{below_grown}
+use Rattle.referring.specs.Recall.{judgment_cells}
+use Rattle.reading.specs.Laws.Walks.{walk_next}
+use Rattle.induction.specs.Inducing.{motive_in, Motived, on_motive, MotiveItems, InductForm}
 use Rattle.induction.proofs.Inducts.{cells_are, cells_below}
 use Rattle.referring.specs.Laws.Sounds.{grown_grows}
 
@@ -122,7 +122,7 @@ module _ {K : Names} {facts footings lists : List ℕ} {n : Sizes} {I W : List �
 
       module _ {next : ℕ} (u : next ≡ behind 0 (item_at cells 0)) where
         second : Walk K.text cells next (cons g.z g.zs)
-        second = walk_behind (walk_start g.items) u
+        second = walk_next (walk_start g.items) u
 
         pub form_next : next < length cells
         form_next = at_inside second.here

@@ -7,16 +7,16 @@ use Prim.Native.Nat.{ℕ, ◌-◌, ◌<◌, ◌≤◌}
 use native.Mathlib.Omega.{arith}
 use lib.ListN.{length, take, drop, replicate, length-replicate}
 use Rattle.rules.specs.Limits.{FACTWORDS}
-use Rattle.rules.specs.Out.{Out, ok, refuse, then, found}
-use Rattle.rules.specs.Sexp.{Sexp, Sexps, atom, list, cons, item, rest, items}
-use Rattle.rules.specs.Find.{Set, has, rising}
+use Rattle.rules.specs.Out.{Out, refuse, then, found}
+use Rattle.rules.specs.Sexp.{Sexp, Sexps, cons, item, rest}
+use Rattle.rules.specs.Find.{Set, rising}
 use Rattle.rules.specs.Store.{Made}
-use Rattle.rules.specs.State.{State, Fact, Var, is_plain}
-use Rattle.rules.specs.Reference.{hyp_each, hyp_list}
+use Rattle.rules.specs.State.{Fact, Var, is_plain}
+use Rattle.rules.specs.Reference.{hyp_list}
 use Rattle.rules.specs.Induct.{induct_on, induct, induct_with}
 use Rattle.rules.specs.Laws.Sexp.{rest_item}
 use Rattle.rules.specs.Laws.Theory.{All}
-use Rattle.rules.specs.Laws.Rising.{rising_rises, rising_all_of, has_all}
+use Rattle.rules.specs.Laws.Rising.{rising_all_of, has_all}
 use Rattle.questions.specs.declared.Question.{Question}
 use Rattle.questions.specs.declared.Question.TheVariants.{Binding}
 use Rattle.questions.specs.Numbers.{number_of, detail_of}
@@ -25,7 +25,6 @@ use Rattle.sexp.specs.Items.{Holds, item_at, behind, place}
 use Rattle.sexp.specs.ItemLaws.{at_inside}
 use Rattle.sexp.specs.WalkLaws.{Walk, walk_rest, rest_walk}
 use Rattle.sexp.specs.FoundLaws.{found_at, found_missing}
-use Rattle.sexp.specs.Never.{never}
 use Rattle.terms.specs.declared.store.Mark.{Mark}
 use Rattle.terms.specs.Table.{made}
 use Rattle.terms.specs.Sets.{holds}
@@ -34,32 +33,16 @@ use Rattle.terms.specs.Laws.Sets.{holds_zero}
 use Rattle.state.specs.declared.sizes.Sizes.{Sizes}
 use Rattle.state.specs.Held.{Names, VarsHeld}
 use Rattle.state.specs.Rows.{SomeVars}
-use Rattle.state.specs.Members.{rising_empty, rises_rising}
+use Rattle.state.specs.Members.{rising_empty}
 use Rattle.reading.specs.Items.{FirstItem, variable_in, variable_found}
 use Rattle.reading.specs.Given.{FactsItem}
 use Rattle.reading.specs.Answers.{HypsRead}
 use Rattle.referring.specs.declared.support.Derived.{Derived}
 use Rattle.referring.specs.Derived.{FactForm, DerivedBy, alone}
+use Rattle.reading.specs.Laws.Walks.{walk_next}
 use Rattle.induction.specs.Inducing.{SubjectItems, InductForm}
-use Rattle.reading.specs.Laws.Lists.{variable_below}
-use Rattle.induction.proofs.CaseNames.{walk_behind}
+use Rattle.reading.specs.Laws.Lists.{variable_below, listed_rises}
 use Rattle.induction.proofs.InductForms.{derived_on}
-
--- a list of hypotheses rises
-rising_again : (n : ℕ) (a : Set) → rising n a ≡ rising n (has (rising n a))
-rising_again n a = sym (rises_rising n (rising n a) (rising_rises n a) (rising_all_of n a (λ v l e. l)))
-
-ok_rises : (n : ℕ) (o : Out Made (List ℕ)) (hs : List ℕ) (U : Made) → then o (λ is N. ok (rising n (has is)) N) ≡ ok hs U → hs ≡ rising n (has hs)
-unfolding then
-ok_rises n (ok is N) hs U e =
-    let q : rising n (has is) ≡ hs = cc in
-    sym q ∙ rising_again n (has is) ∙ ap (λ (xs : List ℕ). rising n (has xs)) q
-ok_rises n (refuse q d N) hs U e = never cc
-
-listed_rises : (S : State) (x : Sexp) (hs : List ℕ) (U : Made) → hyp_list is_plain S x U ≡ ok hs U → hs ≡ rising (length S.facts) (has hs)
-unfolding hyp_list items then
-listed_rises S (atom p bs) hs U e = never cc
-listed_rises S (list xs) hs U e = ok_rises (length S.facts) (hyp_each is_plain S xs U) hs U e
 
 -- The variable -----------------------------------------------------------------------------------------------------------------------------
 
@@ -148,7 +131,7 @@ module _ {K : Names} {facts footings lists : List ℕ} {n : Sizes} {I W : List �
 
     module _ {next : ℕ} (u : next ≡ behind at (item_at cells at)) where
       pub at_fourth : Walk K.text cells next (cons (item g.xs 3) (rest g.xs 4))
-      at_fourth = subst (λ (z : Sexps). Walk K.text cells next z) fourth (walk_behind at_third u)
+      at_fourth = subst (λ (z : Sexps). Walk K.text cells next z) fourth (walk_next at_third u)
 
       pub fourth_high : next ≤ length cells
       fourth_high = at_fourth.here.high
@@ -218,7 +201,7 @@ module _ {K : Names} {facts footings lists : List ℕ} {n : Sizes} {I W : List �
         read = c hyps_asked
 
         rises : read.hyps ≡ rising (length g.S.facts) (holds set)
-        rises = listed_rises g.S (item g.xs 3) read.hyps (made I W m) (read.are (made I W m)) ∙ ap (rising (length g.S.facts)) (sym read.set_is)
+        rises = listed_rises is_plain g.S (item g.xs 3) read.hyps (made I W m) (read.are (made I W m)) ∙ ap (rising (length g.S.facts)) (sym read.set_is)
 
         pub hyps_earlier : (v : ℕ) → holds set v ≡ true → v < length g.S.facts
         hyps_earlier v q =
@@ -231,7 +214,7 @@ module _ {K : Names} {facts footings lists : List ℕ} {n : Sizes} {I W : List �
 
         module _ {last : ℕ} (w : last ≡ behind next (item_at cells next)) where
           at_fifth : Walk K.text cells last (cons (item g.xs 4) (rest g.xs 5))
-          at_fifth = subst (λ (z : Sexps). Walk K.text cells last z) fifth (walk_behind at_fourth w)
+          at_fifth = subst (λ (z : Sexps). Walk K.text cells last z) fifth (walk_next at_fourth w)
 
           pub fifth_high : last ≤ length cells
           fifth_high = at_fifth.here.high

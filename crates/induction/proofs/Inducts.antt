@@ -10,7 +10,7 @@ use lib.ListN.{length, get_or, set, take, drop, replicate, length-set, length-re
 use lib.Seq.{take_at, take-suc, take-suc-set, take_all, get_or-set_other, sets, sets-eq}
 use borrow.Author.Tests.{eq-eqb, ne_eqb}
 use Rattle.rules.specs.Limits.{FACTS, FACTWORDS, TERMWORDS, VARIABLEWORDS}
-use Rattle.rules.specs.Find.{Set, any, has, union, rising, rising_from}
+use Rattle.rules.specs.Find.{Set, any, has, union, rising}
 use Rattle.rules.specs.Tree.{more, same_tree, among, variables, variables_of}
 use Rattle.rules.specs.Store.{Made}
 use Rattle.rules.specs.State.{State}
@@ -19,40 +19,36 @@ use Rattle.rules.specs.Induct.{motive_vars}
 use Rattle.rules.specs.Laws.Theory.{All, both, all_at}
 use Rattle.rules.specs.Laws.Rising.{rising_all_of}
 use Rattle.terms.specs.declared.store.Mark.{Mark}
-use Rattle.terms.specs.Table.{made, tree, args_of, Good}
+use Rattle.terms.specs.Table.{Below, made, tree, args_of, Good}
 use Rattle.terms.specs.Collect.{Seen, Visited}
 use Rattle.terms.specs.Sets.{holds}
 use Rattle.terms.specs.Laws.Numbers.{same_number}
 use Rattle.terms.specs.Laws.Sets.{eqb_iff, holds_zero}
 use Rattle.terms.specs.Laws.Seen.{seen_none}
+use Rattle.facts.specs.declared.Fact.{Fact as Record}
+use Rattle.facts.specs.Table.{blank}
 use Rattle.state.specs.declared.sizes.Sizes.{Sizes}
 use Rattle.state.specs.Held.{records, Recorded}
+use Rattle.state.specs.Records.{fact_rows, fact_cell}
 use Rattle.state.specs.Rows.{cell}
 use Rattle.state.specs.FactLaws.{fact_row_lem}
 use Rattle.referring.specs.Referral.{Gathered}
-use Rattle.referring.specs.Substitutes.{Below}
-use Rattle.induction.specs.Inducing.{motive_in, judgment_cells, hyps_in, plain_at, Resting, BeforeRest}
+use Rattle.referring.specs.Recall.{judgment_cells}
+use Rattle.induction.specs.Inducing.{motive_in, hyps_in, plain_at, Resting, BeforeRest}
+use Rattle.state.specs.Members.{rising_few}
 
 -- The judgments of facts -----------------------------------------------------------------------------------------------------------------
+
+pub judged_number : (fs : List Record) (i : ℕ) → i < length fs → {j : ℕ} → j ≡ (get_or fs i blank).judgment → j ≡ cell 6 (fact_rows fs) i 0
+judged_number fs i l e = e ∙ sym (fact_cell fs i l 0 (omega arith))
 
 cells_snoc : (facts xs : List ℕ) (h : ℕ) → judgment_cells facts (xs ++ (h ∷ [])) ≡ judgment_cells facts xs ++ (cell 6 facts h 0 ∷ [])
 unfolding judgment_cells
 cells_snoc facts [] h = refl
 cells_snoc facts (x ∷ xs) h = ap (λ (l : List ℕ). cell 6 facts x 0 ∷ l) (cells_snoc facts xs h)
 
--- at most so many
-rising_few : (n k : ℕ) (a : Set) → length (rising_from k n a) ≤ n
-unfolding rising_from
-rising_few zero k a = omega arith
-rising_few (suc n) k a = go (a k) (rising_few n (suc k) a)
-  where
-    go : (b : Bool) → length (rising_from (suc k) n a) ≤ n → length {A = ℕ} (elim b [ true ↦ k ∷ rising_from (suc k) n a | false ↦ rising_from (suc k) n a ]) ≤ suc n
-    go true l = omega arith
-    go false l = omega arith
-
 pub members_few : (a : Set) → length (rising FACTS a) ≤ FACTS
-unfolding rising
-members_few a = rising_few FACTS 0 a
+members_few a = rising_few FACTS a
 
 members_below : (a : Set) → All (λ h. h < FACTS) (rising FACTS a)
 members_below a = rising_all_of FACTS a (λ v l e. l)

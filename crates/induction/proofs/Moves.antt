@@ -25,7 +25,8 @@ use Rattle.terms.specs.Laws.Numbers.{stored_is}
 use Rattle.terms.specs.Laws.Theta.{replacement_grown, replacement_some, replacement_none}
 use Rattle.terms.specs.Laws.Zeros.{get_d_zeros}
 use Rattle.referring.specs.Substitutes.{Replaceables, Replaced}
-use Rattle.referring.specs.Laws.Substitutes.{below_grown, replaceable_now}
+use Rattle.terms.specs.Laws.Below.{below_grown}
+use Rattle.referring.specs.Laws.Substitutes.{replaceable_now}
 use Rattle.induction.specs.Inducing.{Moved, MovedBy, judgment_first, premises_first}
 
 -- what an answer says behind what went before

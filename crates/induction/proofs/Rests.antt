@@ -15,11 +15,11 @@ use borrow.Author.Tests.{eq-eqb, ne_eqb}
 use Rattle.rules.specs.Find.{Set, any, all}
 use Rattle.rules.specs.Tree.{same_tree, same_trees}
 use Rattle.terms.specs.declared.store.Mark.{Mark}
-use Rattle.terms.specs.Table.{made, tree, args_of, Good}
+use Rattle.terms.specs.Table.{Below, made, tree, args_of, Good}
 use Rattle.terms.specs.Node.{same_words}
 use Rattle.terms.specs.Laws.Numbers.{same_number, same_numbers}
-use Rattle.referring.specs.Substitutes.{Below}
 use Rattle.induction.specs.Inducing.{hyps_in, row_among}
+use Rattle.std.proofs.Math.Bool.{and-true, and-false}
 
 -- Cells compared ------------------------------------------------------------------------------------------------------------------------
 
@@ -33,14 +33,6 @@ slices_same (x ∷ xs) (y ∷ ys) = go (eqb x y) (slices_same xs ys)
     go : (b : Bool) → pointwise eqb xs ys ≡ same_words xs ys → (b && pointwise eqb xs ys) ≡ elim b [ true ↦ same_words xs ys | false ↦ false ]
     go true e = e
     go false e = refl
-
-and_yes : (b : Bool) → (b && true) ≡ b
-and_yes true = refl
-and_yes false = refl
-
-and_no : (b : Bool) → (b && false) ≡ false
-and_no true = refl
-and_no false = refl
 
 -- Variables generalised --------------------------------------------------------------------------------------------------------------------
 
@@ -133,12 +125,12 @@ module _ {own : List ℕ} {j w : ℕ} {ids : List ℕ} {many : ℕ} {rest : List
         }
 
     pub rowing_other : (get_or row w 0 ≡ j → ⊥) → Rowing own j w ids many rest'
-    rowing_other q = passed (ap (λ (b : Bool). same_words (take w row) own && b) (ne_eqb (get_or row w 0) j q) ∙ and_no (same_words (take w row) own))
+    rowing_other q = passed (ap (λ (b : Bool). same_words (take w row) own && b) (ne_eqb (get_or row w 0) j q) ∙ and-false (same_words (take w row) own))
 
     module _ (q : get_or row w 0 ≡ j) {t : Bool} (d : t ≡ pointwise eqb (take w row) own) where
       is_row : (same_words (take w row) own && eqb (get_or row w 0) j) ≡ t
       is_row =
-          ap (λ (b : Bool). same_words (take w row) own && b) (eq-eqb (get_or row w 0) j q) ∙ and_yes (same_words (take w row) own) ∙ sym (d ∙ slices_same (take w row) own)
+          ap (λ (b : Bool). same_words (take w row) own && b) (eq-eqb (get_or row w 0) j q) ∙ and-true (same_words (take w row) own) ∙ sym (d ∙ slices_same (take w row) own)
 
       pub rowing_unlike : t ≡ false → Rowing own j w ids many rest'
       rowing_unlike z = passed (is_row ∙ z)

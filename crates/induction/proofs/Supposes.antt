@@ -18,12 +18,11 @@ use Rattle.rules.specs.Store.{Made}
 use Rattle.rules.specs.Induct.{Hyp, Motive, hypothesis_at, hypotheses}
 use Rattle.rules.specs.Laws.Out.{then_then}
 use Rattle.terms.specs.declared.store.Mark.{Mark}
-use Rattle.terms.specs.Table.{made, Grown}
+use Rattle.terms.specs.Table.{Below, made, Grown}
 use Rattle.terms.specs.On.{Stopped, On, on_start, on_is, on_ok, on_no, on_done}
 use Rattle.terms.specs.Laws.Growth.{grown_tree, grown_args}
 use Rattle.reading.specs.Laws.Walks.{then_same}
-use Rattle.referring.specs.Substitutes.{Below}
-use Rattle.referring.specs.Laws.Substitutes.{below_grown}
+use Rattle.terms.specs.Laws.Below.{below_grown}
 use Rattle.induction.specs.Inducing.{motive_in, Motived, Moved, hyp_in, hyps_in, HypsMade}
 
 -- Rows in the cells -------------------------------------------------------------------------------------------------------------------------

@@ -1,4 +1,5 @@
 -- What the form `induct` is given and what its parts answer: the motive in the store, a case's terms, and what a case may rest on. Assumes nothing.
+use Rattle.state.specs.Records.{fact_rows, fact_feet}
 use Rattle.std.specs.Prelude.{◌≡◌, Bool, true, false, ◌&&◌, ◌||◌, List, [], ◌∷◌, ℕ, zero, suc, ◌*◌, ◌<◌, ◌≤◌, eqb, length, get_or, take, drop, replicate, Some as some, None as nothing, Result, Ok, Err}
 use Rattle.rules.specs.Limits.{ARGUMENTS, VARIABLES, FACTS, SYMBOLS, TERMS, VARIABLEWORDS, TERMWORDS, FACTWORDS}
 use Rattle.rules.specs.Out.{Out, ok, refuse, Act, ◌>>=◌, pure, ask}
@@ -18,13 +19,12 @@ use Rattle.questions.specs.declared.Question.{Question}
 use Rattle.questions.specs.declared.Question.TheVariants.{Binding}
 use Rattle.terms.specs.declared.store.Mark.{Mark}
 use Rattle.terms.specs.declared.store.Store.{Store}
-use Rattle.terms.specs.Table.{made, tree, args_of, Good}
+use Rattle.terms.specs.Table.{Below, made, tree, args_of, Good}
 use Rattle.terms.specs.Node.{same_words}
 use Rattle.terms.specs.Sets.{holds}
 use Rattle.terms.specs.On.{Went, Stopped}
 use Rattle.state.specs.declared.sizes.Sizes.{Sizes}
 use Rattle.state.specs.Held.{Names, VarsHeld, Spelling, records, Recorded}
-use Rattle.state.specs.Rows.{cell}
 use Rattle.reading.specs.declared.reader.Reader.{Reader}
 use Rattle.reading.specs.Reader.{names_of}
 use Rattle.reading.specs.Items.{variable_in}
@@ -32,7 +32,7 @@ use Rattle.referring.specs.declared.source.Facts.{Facts}
 use Rattle.referring.specs.declared.source.Source.{Source}
 use Rattle.referring.specs.Sources.{source_names}
 use Rattle.referring.specs.Recall.{Refers}
-use Rattle.referring.specs.Substitutes.{Below, Replaceables}
+use Rattle.referring.specs.Substitutes.{Replaceables}
 use Rattle.induction.specs.declared.motive.Motive.{Motive as Statement}
 use Rattle.induction.specs.declared.resting.Allowed.{Allowed}
 use Rattle.induction.specs.declared.induct_cases.Case.{Case}
@@ -49,14 +49,6 @@ Blank memo ids = (memo ≡ replicate TERMS 0) × (ids ≡ replicate IDS 0)
 -- enough of them for a case: at most ARGUMENTS induction hypotheses, of so many premises and a judgment each
 abbrev pub Roomy : ℕ → List ℕ → Type 0
 Roomy width ids = ARGUMENTS * suc width ≤ length ids
-
--- K answers, or refuses; what is answered is of no use
-abbrev pub PassedBy : List ℕ → List ℕ → List ℕ → List ℕ → Mark → Mark → Out Made (Unit {0}) → Result (Unit {0}) Question → Type 0
-PassedBy I W J X old new K (Ok _) = Went I W J X old K tt new
-PassedBy I W J X old new K (Err q) = Stopped I W J X old K (number_of q) (detail_of q) new
-
-abbrev pub PassedAs : Store → Store → Out Made (Unit {0}) → Result (Unit {0}) Question → Type 0
-PassedAs s t K r = PassedBy s.index.now s.words.now t.index.now t.words.now s.mark t.mark K r
 
 -- The motive -------------------------------------------------------------------------------------------------------------------------
 
@@ -77,11 +69,6 @@ pub record Motived (I W : List ℕ) (m : Mark) (x j : ℕ) (premises : List ℕ)
 
 abbrev pub MotivedIn : Store → Statement → Type 0
 MotivedIn s a = Motived s.index.now s.words.now s.mark a.x a.judgment a.premises.now
-
--- the judgments of facts, by their numbers
-unfoldable pub judgment_cells : List ℕ → List ℕ → List ℕ
-judgment_cells facts [] = []
-judgment_cells facts (h ∷ hs) = cell 6 facts h 0 ∷ judgment_cells facts hs
 
 -- Substitution -----------------------------------------------------------------------------------------------------------------------
 
@@ -205,7 +192,7 @@ pub record Resting (facts lists : List ℕ) (n : Sizes) (plain used : List ℕ) 
   pub known : Below m.terms ids
 
 abbrev pub RestingIn : Facts → Allowed → Type 0
-RestingIn f a = Resting f.rows.now f.lists.now f.n a.plain.now a.used.now a.x a.rows.width a.rows.cells.now
+RestingIn f a = Resting (fact_rows f.records.now) f.lists.now f.n a.plain.now a.used.now a.x a.rows.width a.rows.cells.now
 
 -- the same before the judgments of the induction hypotheses are in the set; the case's judgment is there
 pub record BeforeRest (facts lists : List ℕ) (n : Sizes) (plain used : List ℕ) (x k : ℕ) (ids : List ℕ) (j : ℕ) : Type 0 where
@@ -268,7 +255,7 @@ pub record InCase (facts lists : List ℕ) (n : Sizes) (I W : List ℕ) (m : Mar
   pub wide : length used ≡ VARIABLEWORDS
 
 abbrev pub CaseIn : Facts → Store → Statement → List ℕ → Type 0
-CaseIn f s m used = InCase f.rows.now f.lists.now f.n s.index.now s.words.now s.mark m.x m.sort m.judgment m.premises.now used
+CaseIn f s m used = InCase (fact_rows f.records.now) f.lists.now f.n s.index.now s.words.now s.mark m.x m.sort m.judgment m.premises.now used
 
 -- the case's constructor can be kept over its variables
 abbrev pub Cased : Store → Case → Type 0
@@ -333,7 +320,7 @@ pub record CaseItems (K : Names) (facts footings lists : List ℕ) (n : Sizes) (
 
 abbrev pub ReadsCases : Source → Store → Statement → List ℕ → List ℕ → Type 0
 ReadsCases s t m used cells =
-    CaseItems (source_names s) s.rows.now s.footings.now s.lists.now s.reader.n t.index.now t.words.now t.mark m.x m.sort m.judgment m.premises.now used cells
+    CaseItems (source_names s) (fact_rows s.records.now) (fact_feet s.records.now) s.lists.now s.reader.n t.index.now t.words.now t.mark m.x m.sort m.judgment m.premises.now used cells
 
 -- The form ---------------------------------------------------------------------------------------------------------------------------
 
@@ -354,7 +341,7 @@ pub record MotiveItems (K : Names) (facts footings lists : List ℕ) (n : Sizes)
 
 abbrev pub ReadsMotive : Source → Store → Statement → List ℕ → Type 0
 ReadsMotive s t m cells =
-    MotiveItems (source_names s) s.rows.now s.footings.now s.lists.now s.reader.n t.index.now t.words.now t.mark m.x m.judgment m.premises.now cells
+    MotiveItems (source_names s) (fact_rows s.records.now) (fact_feet s.records.now) s.lists.now s.reader.n t.index.now t.words.now t.mark m.x m.judgment m.premises.now cells
 
 -- texts and tables, a variable, a set of facts, and the cells begin with two items
 pub record InductForm (K : Names) (facts footings lists : List ℕ) (n : Sizes) (I W : List ℕ) (m : Mark) (x : ℕ) (hyps cells : List ℕ) : Type 0 where
@@ -370,7 +357,7 @@ pub record InductForm (K : Names) (facts footings lists : List ℕ) (n : Sizes) 
 
 abbrev pub ReadsInduct : Source → Store → ℕ → List ℕ → List ℕ → Type 0
 ReadsInduct s t x hyps cells =
-    InductForm (source_names s) s.rows.now s.footings.now s.lists.now s.reader.n t.index.now t.words.now t.mark x hyps cells
+    InductForm (source_names s) (fact_rows s.records.now) (fact_feet s.records.now) s.lists.now s.reader.n t.index.now t.words.now t.mark x hyps cells
 
 -- variables, and the cells hold the items of a form, its variable among them
 pub record SubjectItems (goals text vars : List ℕ) (count-vars : ℕ) (cells : List ℕ) : Type 0 where

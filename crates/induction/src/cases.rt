@@ -3,10 +3,9 @@ ghost use Rattle.std.specs.Prelude.{◌≡◌, suc, ◌+◌, ◌*◌, ◌<◌, �
 ghost use Rattle.rules.specs.Limits.{VARIABLES, TERMS};
 ghost use Rattle.rules.specs.Tree.{app};
 ghost use Rattle.rules.specs.Induct.{hypothesis_at, hypotheses};
-ghost use Rattle.terms.specs.Table.{args_of, tree};
+ghost use Rattle.terms.specs.Table.{Below, args_of, tree};
 ghost use Rattle.terms.specs.Lent.{SameTables, KeptAs, made_of};
 ghost use Rattle.terms.specs.Subst.{replacement};
-ghost use Rattle.referring.specs.Substitutes.{Below};
 ghost use Rattle.induction.specs.Inducing.{motive_of, MotivedIn, CasingIn, MovableIn, MovedAs, judgment_first, premises_first, var_trees, keep_case, at_constructor, HypsMadeAs};
 
 use crate::motive::Motive;

@@ -3,17 +3,21 @@
 ghost use Rattle.std.specs.Prelude.{◌≡◌, ◌*◌, ◌≤◌, length, take, replicate};
 ghost use Rattle.rules.specs.Limits.{TERMS, FACTS, FACTWORDS};
 ghost use Rattle.rules.specs.Find.{rising};
-ghost use Rattle.rules.specs.State.{Fact};
+ghost use Rattle.rules.specs.State.{Fact as StateFact};
 ghost use Rattle.rules.specs.Induct.{motive_vars, induct_on, induct, induct_with};
 ghost use Rattle.terms.specs.Lent.{SameTables, made_of, terms_made};
+ghost use Rattle.state.specs.Records.{fact_rows};
 ghost use Rattle.terms.specs.Sets.{holds};
+ghost use Rattle.referring.specs.Recall.{judgment_cells};
 ghost use Rattle.referring.specs.Sources.{ReadsForm};
 ghost use Rattle.referring.specs.Derived.{DerivedAs, alone};
-ghost use Rattle.induction.specs.Inducing.{Blank, Roomy, PassedAs, motive_of, Motived, judgment_cells, on_motive, ReadsMotive, ReadsInduct, ReadsSubject, SubjectAs};
+ghost use Rattle.induction.specs.Inducing.{Blank, Roomy, motive_of, Motived, on_motive, ReadsMotive, ReadsInduct, ReadsSubject, SubjectAs};
+ghost use Rattle.reading.specs.Answers.{PassedAs};
 
 use crate::induct_cases::induct_cases;
 use crate::motive::Motive;
 use cells::clear;
+use facts::{Fact, judgment_of};
 use kernel::readers::constructors;
 use questions::Question;
 use reading::reader::Reader;
@@ -23,7 +27,6 @@ use referring::support::{Derived, Support};
 use rules::{ARGUMENTS, FACTS, FACTWORDS, TERMWORDS, VARIABLEWORDS};
 use sexp::items;
 use sexp::items::Item;
-use state::facts::judgment as judgment_of;
 use state::vars::var_sort;
 use terms::sets::{has, write_out};
 use terms::store::{Store, Terms};
@@ -52,13 +55,13 @@ fn read_subject(reader: &Reader<'_>, cells: &[u32]) -> Result<Subject, Question>
 }
 
 // The judgments of the facts, by rising number, come into the first cells of `out`, as there is no heap for a list; what is answered is how many they are.
-fn judgments_of(rows: &[u32], hyps: &[u64], out: &mut [u32]) -> usize
-    requires { (length rows.now ≡ 6 * FACTS) × (length hyps.now ≡ FACTWORDS) × (length out.old ≡ FACTS) }
-    ensures { (result ≤ FACTS) × (take result out.new ≡ judgment_cells rows.now (rising FACTS (holds hyps.now))) }
+fn judgments_of(facts: &[Fact], hyps: &[u64], out: &mut [u32]) -> usize
+    requires { (length (fact_rows facts.now) ≡ 6 * FACTS) × (length hyps.now ≡ FACTWORDS) × (length out.old ≡ FACTS) }
+    ensures { (result ≤ FACTS) × (take result out.new ≡ judgment_cells (fact_rows facts.now) (rising FACTS (holds hyps.now))) }
 {
     let count = write_out(hyps, out);
     for cell in out[..count].iter_mut() {
-        *cell = judgment_of(rows, *cell as usize) as u32;
+        *cell = judgment_of(facts, *cell as usize);
     }
     count
 }
@@ -142,7 +145,7 @@ fn induct_on(
     requires scratch { Blank memo.old ids.old }
     ensures same_tables { SameTables store.old store.new }
     ensures derived_as { (g : ReadsInduct source.now store.old x hyps cells.now) →
-        DerivedAs Fact store.old store.new g.S (induct_on g.S x (rising (length g.S.facts) (holds hyps)) g.y g.z (made_of store.old)) alone result }
+        DerivedAs StateFact store.old store.new g.S (induct_on g.S x (rising (length g.S.facts) (holds hyps)) g.y g.z (made_of store.old)) alone result }
     ensures memo_unchanged { (memo.new ≡ memo.old) × (ids.new ≡ ids.old) }
 {
     let reader = &source.reader;
@@ -152,7 +155,7 @@ fn induct_on(
         return Err(Question::Cases);
     };
     let mut premises = [0u32; FACTS];
-    let width = judgments_of(source.rows, &hyps, &mut premises);
+    let width = judgments_of(source.records, &hyps, &mut premises);
     let motive = Motive {
         x,
         sort: var_sort(reader.vars, x),
@@ -183,7 +186,7 @@ pub fn induct(
     requires scratch { Blank memo.old ids.old }
     ensures same_tables { SameTables store.old store.new }
     ensures derived_as { (g : ReadsForm source.now store.old cells.now 5) →
-        DerivedAs Fact store.old store.new g.S (induct g.S g.xs (made_of store.old)) alone result }
+        DerivedAs StateFact store.old store.new g.S (induct g.S g.xs (made_of store.old)) alone result }
     ensures memo_unchanged { (memo.new ≡ memo.old) × (ids.new ≡ ids.old) }
 {
     let Subject { x, at } = read_subject(&source.reader, cells)?;
@@ -204,14 +207,14 @@ pub fn induct_with(
     requires scratch { Blank memo.old ids.old }
     ensures same_tables { SameTables store.old store.new }
     ensures derived_as { (g : ReadsForm source.now store.old cells.now 6) →
-        DerivedAs Fact store.old store.new g.S (induct_with g.S g.xs (made_of store.old)) alone result }
+        DerivedAs StateFact store.old store.new g.S (induct_with g.S g.xs (made_of store.old)) alone result }
     ensures memo_unchanged { (memo.new ≡ memo.old) × (ids.new ≡ ids.old) }
 {
     let reader = &source.reader;
     let Subject { x, at } = read_subject(reader, cells)?;
     let third = items::after(cells, at);
     let mut hyps = [0; FACTWORDS];
-    reader.plain_hyps(source.rows, &cells[third..], &mut hyps)?;
+    reader.plain_hyps(source.records, &cells[third..], &mut hyps)?;
     let next = items::after(cells, third);
     induct_on(source, store, &cells[next..], x, hyps, memo, ids)
 }

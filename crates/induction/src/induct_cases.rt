@@ -5,7 +5,8 @@ ghost use Rattle.rules.specs.Theory.{constructors};
 ghost use Rattle.rules.specs.Induct.{Motive as Proved, motive_vars, case_vars, induct_cases};
 ghost use Rattle.terms.specs.Lent.{SameTables, made_of};
 ghost use Rattle.terms.specs.Sets.{holds};
-ghost use Rattle.induction.specs.Inducing.{Roomy, PassedAs, motive_of, case_behind, CaseIn, Cased, NamesIn, NamedAs, ReadsCase, CaseAs, ReadsCases};
+ghost use Rattle.induction.specs.Inducing.{Roomy, motive_of, case_behind, CaseIn, Cased, NamesIn, NamedAs, ReadsCase, CaseAs, ReadsCases};
+ghost use Rattle.reading.specs.Answers.{PassedAs};
 
 use crate::motive::{Motive, Rows};
 use crate::resting::Allowed;

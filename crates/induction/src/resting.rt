@@ -3,16 +3,15 @@ ghost use Rattle.std.specs.Prelude.{◌≡◌, ◌&&◌, ℕ, not, suc, ◌*◌,
 ghost use Rattle.rules.specs.Limits.{FACTS};
 ghost use Rattle.rules.specs.Find.{all, entry};
 ghost use Rattle.rules.specs.Induct.{allowed_rule, allowed_hyp};
-ghost use Rattle.terms.specs.Table.{made, tree};
+ghost use Rattle.terms.specs.Table.{Below, made, tree};
 ghost use Rattle.terms.specs.Sets.{holds};
 ghost use Rattle.referring.specs.Recall.{fact_of};
-ghost use Rattle.referring.specs.Substitutes.{Below};
 ghost use Rattle.induction.specs.Inducing.{hyps_in, row_among, RestingIn, case_fact, asked};
 
 use crate::motive::Rows;
 use questions::Question;
 use referring::source::Facts;
-use state::facts::{is_assumed, is_plain, judgment};
+use state::recorded::{is_assumed, is_plain, judgment};
 use terms::sets::has;
 
 // Plain hypotheses whose judgments are in the set of terms, and rule hypotheses that are an induction hypothesis, over variables that are in the other set,
@@ -61,13 +60,13 @@ impl Allowed<'_> {
         ensures { (g : RestingIn facts.now self.now) →
             result ≡ allowed_rule g.M (hyps_in (made g.I g.W g.m) self.now.rows.width g.many self.now.rows.cells.now) (fact_of g.S h) }
     {
-        if !is_assumed(facts.rows, h) {
+        if !is_assumed(facts.records, h) {
             return false;
         }
         if !self.generalises(facts.general(h)) {
             return false;
         }
-        self.rows.has(facts.premises(h), judgment(facts.rows, h))
+        self.rows.has(facts.premises(h), judgment(facts.records, h))
     }
 
     // Whether it may rest on hypothesis h.
@@ -76,8 +75,8 @@ impl Allowed<'_> {
         ensures { (g : RestingIn facts.now self.now) →
             result ≡ allowed_hyp g.M g.ps (hyps_in (made g.I g.W g.m) self.now.rows.width g.many self.now.rows.cells.now) (entry g.S.facts h) }
     {
-        if is_plain(facts.rows, h) {
-            return has(self.plain, judgment(facts.rows, h));
+        if is_plain(facts.records, h) {
+            return has(self.plain, judgment(facts.records, h));
         }
         self.rule(facts, h)
     }

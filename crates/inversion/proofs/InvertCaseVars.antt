@@ -27,7 +27,7 @@ use Rattle.reading.specs.Given.{VarsItem}
 use Rattle.reading.specs.Laws.Lists.{Listing, vars_listed, listing_few}
 use Rattle.casework.specs.declared.cases.CaseRead.{CaseRead}
 use Rattle.casework.specs.Cases.{CaseIs}
-use Rattle.casework.specs.Context.{There}
+use Rattle.terms.specs.Table.{Below}
 use Rattle.inversion.specs.InvertRules.{RuleVarsGiven, CaseVarsGiven, CaseVarsAre}
 use Rattle.casework.specs.Laws.CaseItems.{item_reads}
 use Rattle.casework.specs.Laws.Loops.{suit_none}
@@ -105,17 +105,17 @@ module _ {goals text vars rulevars : List ℕ} {count : ℕ} {cells : List ℕ} 
     own_is : take one.variables out ≡ g.c.vars
     own_is = ap (λ (k : ℕ). take k out) case_many ∙ ap (take (length g.c.vars)) out_is ∙ filled_front VARIABLES g.c.vars fits
 
-    pub case_there : There VARIABLES (take one.variables out)
+    pub case_there : Below VARIABLES (take one.variables out)
     case_there k l =
         let z = few_vars in
         subst (λ (xs : List ℕ). get_or xs k 0 < VARIABLES) (sym own_is)
         (omega (arith, all_at g.c.vars k 0 listed.below (subst (λ (xs : List ℕ). k < length xs) own_is l), z))
 
-    pub case_words : (taken : List ℕ) → length taken ≡ VARIABLEWORDS → There (64 * length taken) (take one.variables out)
+    pub case_words : (taken : List ℕ) → length taken ≡ VARIABLEWORDS → Below (64 * length taken) (take one.variables out)
     case_words taken t k l = omega (arith, case_there k l, t)
 
     -- what `suits` asks
-    pub case_suits : RuleVarsGiven rulevars r need × ((vs : List Var) × (count : ℕ) × VarCells vars count vs) × There VARIABLES (take one.variables out)
+    pub case_suits : RuleVarsGiven rulevars r need × ((vs : List Var) × (count : ℕ) × VarCells vars count vs) × Below VARIABLES (take one.variables out)
     case_suits = (g.rule_vars_lem, (g.S.vars, count, g.vars_are.stand), case_there)
 
     abbrev rs : List RuleVar

@@ -1,7 +1,6 @@
 -- The form `invert`: its hypothesis, its context and its judgment, and the fact that it gives. Assumes nothing.
 use mathlib.Core.Path.{◌≡◌, refl, sym, ap, ◌∙◌, subst}
 use mathlib.Core.Bool.{Bool, true, false, ◌||◌, false≢true}
-use mathlib.Core.Logic.{inl, inr}
 use mathlib.Core.List.{List, [], ◌∷◌}
 use Prim.Native.Nat.{ℕ, ◌+◌, ◌-◌, ◌*◌, ◌<◌, ◌≤◌}
 use native.Mathlib.Omega.{arith}
@@ -13,7 +12,7 @@ use Rattle.rules.specs.Limits.{FACTS, FACTWORDS, RULEWORDS}
 use Rattle.rules.specs.Out.{Out, ok, refuse, then, ask}
 use Rattle.rules.specs.Sexp.{Sexp, Sexps, cons, item, rest, items}
 use Rattle.rules.specs.Find.{Set, has, union, rising}
-use Rattle.rules.specs.Tree.{Tree, Trees, var, none, more}
+use Rattle.rules.specs.Tree.{Tree, var, none}
 use Rattle.rules.specs.Store.{Made}
 use Rattle.rules.specs.Theory.{rules_of}
 use Rattle.rules.specs.State.{State, Var, Fact, is_plain}
@@ -22,12 +21,12 @@ use Rattle.rules.specs.Reference.{fact_at, hyp_list}
 use Rattle.rules.specs.Invert.{read_cases, predicate_of, invert_rules, invert}
 use Rattle.rules.specs.Laws.Out.{then_then}
 use Rattle.rules.specs.Laws.Sexp.{rest_item}
-use Rattle.rules.specs.Laws.Theory.{both, all_at, all_map}
-use Rattle.rules.specs.Laws.Keeping.{Each}
-use Rattle.rules.specs.Laws.Sound.{In, sound}
+use Rattle.rules.specs.Laws.Theory.{all_at}
+use Rattle.rules.specs.Laws.Sound.{sound}
 use Rattle.rules.specs.Laws.Rising.{rising_all_of, rising_has}
-use Rattle.rules.proofs.Laws.Below.{Below, Belows, MadeBelow, Leaves, fine, Bounds}
-use Rattle.rules.proofs.Laws.BelowRead.{StateBelow, judgment_below}
+use Rattle.rules.proofs.Laws.Below.{Below, MadeBelow, Leaves, fine, Bounds}
+use Rattle.rules.proofs.Laws.Bounded.{ready_below}
+use Rattle.rules.proofs.Laws.BelowRead.{judgment_below}
 use Rattle.rules.specs.Laws.Ready.{Ready}
 use Rattle.sexp.specs.Encode.{encodes}
 use Rattle.sexp.specs.Items.{Holds, place}
@@ -48,9 +47,11 @@ use Rattle.reading.specs.Answers.{TermRead}
 use Rattle.referring.specs.Recall.{fact_of}
 use Rattle.referring.specs.Laws.Refers.{refers_on, fact_asks}
 use Rattle.referring.specs.Laws.Sounds.{grown_grows}
-use Rattle.casework.specs.Context.{There}
+-- beside `Below` of trees
+use Rattle.terms.specs.Table.{Below as There}
 use Rattle.inversion.specs.InvertRules.{vars_with}
 use Rattle.inversion.specs.Inversions.{NamingForm, hypothesis_of, HypothesisRead, InvertForm, InvertingOn, invert_on, InvertedOn, InvertedRead}
+use Rattle.std.proofs.Math.Bool.{or_comm}
 
 -- The definition ---------------------------------------------------------------------------------------------------------------------------
 
@@ -109,47 +110,19 @@ split S xs A =
 
 -- One member more ---------------------------------------------------------------------------------------------------------------------------
 
-or_swap : (a b : Bool) → a || b ≡ b || a
-or_swap true true = refl
-or_swap true false = refl
-or_swap false true = refl
-or_swap false false = refl
-
 -- one more member
 plus_is : (a : Set) (i : ℕ) (hs : List ℕ) → a ≡ has hs → plus i a ≡ union (has (i ∷ [])) (has hs)
 unfolding has
-plus_is a i hs e = ap (plus i) e ∙ (λ k v. or_swap (has hs v) (eqb v i) k) ∙ ap (λ (s : Set). union s (has hs)) (sym (plus_has i []))
+plus_is a i hs e = ap (plus i) e ∙ (λ k v. or_comm (has hs v) (eqb v i) k) ∙ ap (λ (s : Set). union s (has hs)) (sym (plus_has i []))
 
 -- Variables below a number -------------------------------------------------------------------------------------------------------------------
-
-in_low : (n : ℕ) (M : Made) (t : Tree) → MadeBelow n M → In t M → Below n t
-unfolding In
-in_low n [] t b i = absurd i
-in_low n (u ∷ M) t (both p b) (inl e) = subst (Below n) (sym e) p
-in_low n (u ∷ M) t (both p b) (inr i) = in_low n M t b i
-
-each_low : (n : ℕ) (M : Made) (ts : Trees) → MadeBelow n M → Each (λ t. In t M) ts → Belows n ts
-unfolding Each Below
-each_low n M none b e = tt
-each_low n M (more t ts) b e = (in_low n M t b e.0, each_low n M ts b e.1)
-
-state_low : (S : State) (M : Made) → Ready sound S M → MadeBelow (length S.vars) M → StateBelow (length S.vars) S
-unfolding sound
-state_low S M h b =
-    let n = length S.vars in
-    record {
-      vars = omega arith;
-      defs = all_map (λ d p. in_low n M d.term b p) h.defs;
-      goals = all_map (λ g p. record { judgment = in_low n M g.judgment b p.judgment; hyps = each_low n M g.hyps b p.hyps }) h.goals;
-      facts = all_map (λ f p. record { judgment = in_low n M f.judgment b p.judgment; premises = each_low n M f.premises b p.premises }) h.facts;
-    }
 
 leaves_ok : {A : Type 0} {P : A → Made → Type 0} {R : Made → Type 0} (a : A) (u : Made) → Leaves P R (ok a u) → P a u
 leaves_ok a u (fine p) = p
 
 judgment_low : (S : State) (M : Made) (x : Sexp) (t : Tree) (U : Made) → Ready sound S M → MadeBelow (length S.vars) M → judgment S x M ≡ ok t U → MadeBelow (length S.vars) U
 judgment_low S M x t U h b e =
-    (leaves_ok t U (subst (Bounds (length S.vars) (Below (length S.vars))) e (judgment_below (length S.vars) S (state_low S M h b) x M b))).0
+    (leaves_ok t U (subst (Bounds (length S.vars) (Below (length S.vars))) e (judgment_below (length S.vars) S (ready_below (length S.vars) S M h (omega arith) b) x M b))).0
 
 -- The facts of the context -----------------------------------------------------------------------------------------------------------------
 

@@ -1,4 +1,5 @@
 -- A case of `invert` is judged under the unifier: what it may rest on, then its fact; and a rule with a case. Assumes nothing.
+use Rattle.state.specs.Records.{fact_rows}
 use mathlib.Core.Path.{◌≡◌, refl, sym, ap, ◌∙◌, subst}
 use mathlib.Core.Bool.{Bool, true, false}
 use Rattle.std.specs.Prelude.{Option, Some as some, None as nothing, Ok, Err}
@@ -33,9 +34,10 @@ use Rattle.referring.specs.declared.source.Facts.{Facts}
 use Rattle.referring.specs.declared.source.Source.{Source}
 use Rattle.referring.specs.Sources.{facts_of}
 use Rattle.referring.specs.Recall.{fact_of, Recalls}
-use Rattle.casework.specs.Context.{There, ContextGiven, ContextRead, all_of, PremisesRead}
-use Rattle.inversion.specs.declared.meeting.Met.{Met as Found}
-use Rattle.inversion.specs.InvertRules.{Judging, judged, judges, own_span, Verdict, verdict_of, JudgedBy, Having, has_case, meets, Met, MetBy}
+use Rattle.terms.specs.Table.{Below}
+use Rattle.casework.specs.Context.{ContextGiven, ContextRead, all_of, PremisesRead}
+use Rattle.inversion.specs.InvertRules.{Judging, judged, judges, own_span, Verdict, verdict_of, Having, has_case, meets, Met, MetBy}
+use Rattle.reading.specs.Answers.{PassedBy}
 use Rattle.casework.specs.Laws.Facts.{recalls_grown}
 use Rattle.casework.specs.Laws.Rows.{row}
 use Rattle.inversion.proofs.InvertVerdicts.{Answer}
@@ -47,19 +49,19 @@ abbrev span_by : List ℕ → ℕ → Bool → Span
 span_by facts i b = elim b as (λ (z : Bool). Span) [ true ↦ hyps_span facts i | false ↦ record { from = 0; end = 0 } ]
 
 -- as `own_hyps` answers them
-pub own_said : (s : Source) {f : Facts} {own : List ℕ} (i : ℕ) → f ≡ facts_of s → own ≡ part f.lists.now (own_span f.rows.now f.n i) →
-    own ≡ part s.lists.now (own_span s.rows.now s.reader.n i)
-own_said s i e o = o ∙ ap (λ (f : Facts). part f.lists.now (own_span f.rows.now f.n i)) e
+pub own_said : (s : Source) {f : Facts} {own : List ℕ} (i : ℕ) → f ≡ facts_of s → own ≡ part f.lists.now (own_span (fact_rows f.records.now) f.n i) →
+    own ≡ part s.lists.now (own_span (fact_rows s.records.now) s.reader.n i)
+own_said s i e o = o ∙ ap (λ (f : Facts). part f.lists.now (own_span (fact_rows f.records.now) f.n i)) e
 
 module _ {facts lists : List ℕ} {n : Sizes} {I W : List ℕ} {m : Mark} (g : Recalls facts lists n I W m) where
   module _ (i : ℕ) {s : Span} (e : s ≡ own_span facts n i) where
     pub own_is : i < n.facts → part lists s ≡ (fact_of g.S i).hyps
     own_is l = ap (part lists) e ∙ ap (λ (b : Bool). part lists (span_by facts i b)) (lt-ltb i n.facts l) ∙ (row g l).hyps
 
-    pub own_there : There n.facts (part lists s)
-    own_there = subst (λ (p : Span). There n.facts (part lists p)) (sym e) (go (ltb i n.facts) refl)
+    pub own_there : Below n.facts (part lists s)
+    own_there = subst (λ (p : Span). Below n.facts (part lists p)) (sym e) (go (ltb i n.facts) refl)
       where
-        go : (b : Bool) → ltb i n.facts ≡ b → There n.facts (part lists (span_by facts i b))
+        go : (b : Bool) → ltb i n.facts ≡ b → Below n.facts (part lists (span_by facts i b))
         go true q k p =
             let l = ltb-true i n.facts q in
             let z : part lists (hyps_span facts i) ≡ (fact_of g.S i).hyps = (row g l).hyps in
@@ -67,7 +69,7 @@ module _ {facts lists : List ℕ} {n : Sizes} {I W : List ℕ} {m : Mark} (g : R
             (all_at (fact_of g.S i).hyps k 0 (row g l).hyps_below (subst (λ (xs : List ℕ). k < length xs) z p))
         go false q k p = absurd (omega (arith, p))
 
-judged_said : {I W J X : List ℕ} {m new : Mark} {K : Out Made (Unit {0})} (a : Answer) → On I W m K J X new (said a (made J X new)) → JudgedBy I W J X m new K a
+judged_said : {I W J X : List ℕ} {m new : Mark} {K : Out Made (Unit {0})} (a : Answer) → On I W m K J X new (said a (made J X new)) → PassedBy I W J X m new K a
 judged_said (Ok _) o = on_done o
 judged_said (Err q) o = on_refused o
 
@@ -95,7 +97,7 @@ module _ {symbols rules patterns facts lists : List ℕ} {n : Sizes} {I W : List
       recalls = recalls_grown p.went.grown g.recalls;
       cells = theta_grown p.went.grown g.theta_is;
       empty = f ∙ g.empty;
-      known = subst (There n.facts) (sym o) (own_there g.recalls i refl);
+      known = subst (Below n.facts) (sym o) (own_there g.recalls i refl);
     }
 
     abbrev read : List Binding → Out Made (List Allowed)
@@ -136,7 +138,7 @@ module _ {symbols rules patterns facts lists : List ℕ} {n : Sizes} {I W : List
       }
 
       pub judge_done : (a : Answer) → a ≡ verdict_of g.recalls.S (made Y Z new) i (tree Y Z new t) (holds plain'') (holds fine') →
-          plain ≡ replicate TERMWORDS 0 → fine ≡ replicate FACTWORDS 0 → JudgedBy I W Y Z m new (whole i) a
+          plain ≡ replicate TERMWORDS 0 → fine ≡ replicate FACTWORDS 0 → PassedBy I W Y Z m new (whole i) a
       judge_done a v zp zf =
           judged_said a
           (on_is (on_ok _ on_made (record { grown = c.went.grown; makes = sym reads ∙ c.went.makes }))
@@ -148,7 +150,7 @@ module _ {symbols rules patterns facts lists : List ℕ} {n : Sizes} {I W : List
 -- The judgment under the unifier ---------------------------------------------------------------------------------------------------------------
 
 module _ {I W : List ℕ} {m : Mark} {K : Out Made (Unit {0})} {J X : List ℕ} {now : Mark} {rest : Out Made (Unit {0})} (o : On I W m K J X now rest) where
-  judged_on : (Y Z : List ℕ) (new : Mark) (a : Answer) → JudgedBy J X Y Z now new rest a → JudgedBy I W Y Z m new K a
+  judged_on : (Y Z : List ℕ) (new : Mark) (a : Answer) → PassedBy J X Y Z now new rest a → PassedBy I W Y Z m new K a
   judged_on Y Z new (Ok _) w = on_went o w
   judged_on Y Z new (Err q) s = on_stopped o s
 
@@ -192,7 +194,7 @@ module _ {symbols rules patterns facts lists : List ℕ} {n : Sizes} {I W : List
 
   pub judge_under : (i : ℕ) {J X : List ℕ} (t : ℕ) {new : Mark} →
       Went I W J X m (substitute (replacement (made I W m) theta) (tree I W m j) (made I W m)) (tree J X new t) new → (Y Z : List ℕ) (last : Mark) (a : Answer) →
-      JudgedBy J X Y Z new last (rest_of_it i (bindings (made J X new) theta 0) (tree J X new t) (made J X new)) a → JudgedBy I W Y Z m last (all_of_it i) a
+      PassedBy J X Y Z new last (rest_of_it i (bindings (made J X new) theta 0) (tree J X new t) (made J X new)) a → PassedBy I W Y Z m last (all_of_it i) a
   judge_under i {J} {X} t {new} w Y Z last a =
       judged_on (on_is (on_ok _ (on_start g.recalls.good) (record { grown = w.grown; makes = sym first_step ∙ w.makes }))
       (ap (λ (ζ : List Binding). rest_of_it i ζ (tree J X new t) (made J X new)) (sym (bindings_grown w.grown g.theta_is)))) Y Z last a
@@ -219,12 +221,12 @@ module _ {symbols rules patterns facts lists : List ℕ} {n : Sizes} {I W : List
   pub having_full : (i : ℕ) {J X : List ℕ} {q d : ℕ} {new : Mark} → Stopped I W J X m (met g.meeting.T) q d new → Stopped I W J X m (case_of_lem g.recalls.S.theory i) q d new
   having_full i w = on_no _ (begun i) w
 
-  module _ (J X : List ℕ) (new : Mark) {o : Option Found} (w : MetBy I W J X m new (met g.meeting.T) list (Ok o)) where
-    pub having_met : {a : Found} → o ≡ some a → Met I W J X m (met g.meeting.T) list a.bound a.theta new
-    having_met e = subst (λ (z : Option Found). MetBy I W J X m new (met g.meeting.T) list (Ok z)) e w
+  module _ (J X theta : List ℕ) (new : Mark) {o : Option (List ℕ)} (w : MetBy I W J X m new (met g.meeting.T) list theta (Ok o)) where
+    pub having_met : {bound : List ℕ} → o ≡ some bound → Met I W J X m (met g.meeting.T) list bound theta new
+    having_met e = subst (λ (z : Option (List ℕ)). MetBy I W J X m new (met g.meeting.T) list theta (Ok z)) e w
 
     pub having_unmet : (i : ℕ) → o ≡ nothing → Stopped I W J X m (case_of_lem g.recalls.S.theory i) 46 0 new
-    having_unmet i e = having_apart i (subst (λ (z : Option Found). MetBy I W J X m new (met g.meeting.T) list (Ok z)) e w)
+    having_unmet i e = having_apart i (subst (λ (z : Option (List ℕ)). MetBy I W J X m new (met g.meeting.T) list theta (Ok z)) e w).0
 
   module _ {J X cells theta : List ℕ} {new : Mark} (w : Met I W J X m (met g.meeting.T) list cells theta new) where
     -- what `judge` asks
@@ -250,8 +252,8 @@ module _ {symbols rules patterns facts lists : List ℕ} {n : Sizes} {I W : List
     }
 
     pub having_judged : (i : ℕ) (Y Z : List ℕ) (last : Mark) (a : Answer) →
-        JudgedBy J X Y Z new last (judges g.recalls.S (rule g.meeting.T r) (renaming list) (bindings (made J X new) theta 0) context i (tree J X new j) (made J X new)) a →
-        JudgedBy I W Y Z m last (case_of_lem g.recalls.S.theory i) a
+        PassedBy J X Y Z new last (judges g.recalls.S (rule g.meeting.T r) (renaming list) (bindings (made J X new) theta 0) context i (tree J X new j) (made J X new)) a →
+        PassedBy I W Y Z m last (case_of_lem g.recalls.S.theory i) a
     having_judged i Y Z last a =
         judged_on (on_is (on_ok _ (begun i) w.went)
         (ap (λ (u : Tree). judges g.recalls.S (rule g.meeting.T r) (renaming list) (bindings (made J X new) theta 0) context i u (made J X new))

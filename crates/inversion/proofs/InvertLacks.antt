@@ -19,7 +19,6 @@ use Rattle.terms.specs.Table.{made, tree}
 use Rattle.terms.specs.On.{Stopped, On, on_start, on_is, on_ok, on_no, on_pure, on_stop, on_done, on_refused}
 use Rattle.kernel.specs.Entries.{rule_formed}
 use Rattle.state.specs.declared.sizes.Sizes.{Sizes}
-use Rattle.inversion.specs.declared.meeting.Met.{Met as Found}
 use Rattle.inversion.specs.InvertRules.{RuleVarsGiven, VarsMade, vars_with, Meeting, MetBy, meets, Lacking, Lacked, lacks}
 use Rattle.inversion.proofs.InvertNames.{with_length}
 
@@ -100,14 +99,14 @@ module _ {symbols rules rulevars patterns : List ℕ} {n : Sizes} {I W : List �
       pub lack_stopped : {J X : List ℕ} {q d : ℕ} {new : Mark} → Stopped I W J X m met q d new → Stopped I W J X m K q d new
       lack_stopped x = on_no _ on_made x
 
-      module _ (J X : List ℕ) (new : Mark) {o : Option Found} (w : MetBy I W J X m new met (take need list) (Ok o)) where
-        pub lack_found : {a : Found} → o ≡ some a → Stopped I W J X m K 47 0 new
-        lack_found e = on_refused (on_ok _ on_made (subst (λ (z : Option Found). MetBy I W J X m new met (take need list) (Ok z)) e w).went)
+      module _ (J X theta : List ℕ) (new : Mark) {o : Option (List ℕ)} (w : MetBy I W J X m new met (take need list) theta (Ok o)) where
+        pub lack_found : {bound : List ℕ} → o ≡ some bound → Stopped I W J X m K 47 0 new
+        lack_found e = on_refused (on_ok _ on_made (subst (λ (z : Option (List ℕ)). MetBy I W J X m new met (take need list) theta (Ok z)) e w).went)
 
         pub lack_apart : o ≡ nothing → Lacked I W J X m g.vs K sorts' count k new
         lack_apart e =
             record {
-              went = on_done (on_ok _ on_made (subst (λ (z : Option Found). MetBy I W J X m new met (take need list) (Ok z)) e w));
+              went = on_done (on_ok _ on_made (subst (λ (z : Option (List ℕ)). MetBy I W J X m new met (take need list) theta (Ok z)) e w).0);
               more = omega (arith, are.many);
               few = are.few;
               long = are.long;

@@ -31,11 +31,13 @@ use Rattle.unification.specs.Laws.Answers.{solved_went, unsolved_went}
 use Rattle.terms.specs.Laws.Bound.{build_is, bound_grown, cells_grown, cells_zeros}
 use Rattle.terms.specs.Laws.Growth.{grown_tree, grown_there, grown_trans}
 use Rattle.terms.specs.Laws.Numbers.{made_closed}
+use Rattle.terms.specs.Laws.Zeros.{zeros_long}
 use Rattle.kernel.specs.Readers.{conclusion_at}
 use Rattle.kernel.specs.Entries.{rule_formed}
 use Rattle.kernel.specs.RuleWords.{conclusion_stands}
 use Rattle.state.specs.declared.sizes.Sizes.{Sizes}
-use Rattle.casework.specs.Context.{There}
+-- beside `Below` of trees
+use Rattle.terms.specs.Table.{Below as There}
 use Rattle.inversion.specs.InvertRules.{Meeting, Empty, meets, Met, VarsKept}
 use Rattle.inversion.specs.Inverting.{EmptyScratch, ScratchKept}
 
@@ -51,26 +53,27 @@ substitute_value ρ t {I} {W} {m} g e = made_is (make_makes (sub ρ t) (made I W
 
 -- Scratch ----------------------------------------------------------------------------------------------------------------------------------------
 
-zeros_long : {xs : List ℕ} (n : ℕ) → xs ≡ replicate n 0 → Zeros xs
-zeros_long {xs} n e = e ∙ ap (λ (k : ℕ). replicate k 0) (sym (ap length e ∙ length-replicate {A = ℕ} n 0))
-
-long_of : {xs : List ℕ} (n : ℕ) → xs ≡ replicate n 0 → length xs ≡ n
-long_of {xs} n e = ap length e ∙ length-replicate {A = ℕ} n 0
+zeros_of : {xs : List ℕ} (n : ℕ) → xs ≡ replicate n 0 → Zeros xs
+zeros_of {xs} n e = e ∙ ap (λ (k : ℕ). replicate k 0) (sym (ap length e ∙ length-replicate {A = ℕ} n 0))
 
 scratch_of : {theta map memo pairs seen : List ℕ} → theta ≡ replicate VARIABLES 0 → Empty map memo pairs seen → Scratch theta map memo pairs seen
 scratch_of z e =
     record {
-      thetas = long_of VARIABLES z;
-      no_thetas = zeros_long VARIABLES z;
-      maps = long_of VARIABLES e.maps;
-      no_maps = zeros_long VARIABLES e.maps;
-      memos = omega (arith, long_of TERMS e.memos);
-      no_memos = zeros_long TERMS e.memos;
-      many = long_of (2 * PAIRS) e.many;
-      no_pairs = zeros_long (2 * PAIRS) e.many;
-      wide = omega (arith, long_of TERMWORDS e.visits);
-      no_seen = zeros_long TERMWORDS e.visits;
+      thetas = zeros_long VARIABLES z;
+      no_thetas = zeros_of VARIABLES z;
+      maps = zeros_long VARIABLES e.maps;
+      no_maps = zeros_of VARIABLES e.maps;
+      memos = omega (arith, zeros_long TERMS e.memos);
+      no_memos = zeros_of TERMS e.memos;
+      many = zeros_long (2 * PAIRS) e.many;
+      no_pairs = zeros_of (2 * PAIRS) e.many;
+      wide = omega (arith, zeros_long TERMWORDS e.visits);
+      no_seen = zeros_of TERMWORDS e.visits;
     }
+
+-- the cells of bindings, where `unify` found none
+pub zero_again : {theta : List ℕ} → length theta ≡ VARIABLES → Zeros theta → theta ≡ replicate VARIABLES 0
+zero_again l z = z ∙ ap (λ (k : ℕ). replicate k 0) l
 
 -- scratch that holds what it held is still empty
 pub empty_still : (x y : Tables) → EmptyScratch x → ScratchKept x y → EmptyScratch y
@@ -176,5 +179,7 @@ module _ {symbols rules patterns : List ℕ} {n : Sizes} {I W : List ℕ} {m : M
                 cells = cells_grown w kept.cells;
               }
 
-          pub meet_apart : b ≡ false → Went I W P Q m K nothing new
-          meet_apart e = on_went on_built (unsolved_went (subst (λ (z : Bool). UnifiedAs Y Z P Q mark new theta unified (Ok z)) e u).0)
+          pub meet_apart : b ≡ false → Went I W P Q m K nothing new × (theta ≡ replicate VARIABLES 0)
+          meet_apart e =
+              let x = subst (λ (z : Bool). UnifiedAs Y Z P Q mark new theta unified (Ok z)) e u in
+              (on_went on_built (unsolved_went x.0), zero_again x.1 x.2)

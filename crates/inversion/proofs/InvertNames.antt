@@ -57,7 +57,7 @@ unfolding nameless
 nameless_snoc [] s = refl
 nameless_snoc (x ∷ ss) s = ap (λ (l : List Var). made_var x ∷ l) (nameless_snoc ss s)
 
-nameless_length : (ss : List ℕ) → length (nameless ss) ≡ length ss
+pub nameless_length : (ss : List ℕ) → length (nameless ss) ≡ length ss
 unfolding nameless
 nameless_length [] = refl
 nameless_length (s ∷ ss) = ap suc (nameless_length ss)

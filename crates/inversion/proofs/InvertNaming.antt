@@ -9,18 +9,17 @@ use lib.ListN.{length, take, drop}
 use borrow.Author.Tests.{not-true, not-false}
 use Rattle.rules.specs.Limits.{FACTS}
 use Rattle.rules.specs.Out.{Out, ok, refuse, then, ask, found}
-use Rattle.rules.specs.Sexp.{Sexp, Sexps, atom, list, cons, item, rest, items}
-use Rattle.rules.specs.Find.{Set, has, rising}
+use Rattle.rules.specs.Sexp.{Sexp, Sexps, cons, item, rest}
+use Rattle.rules.specs.Find.{Set, rising}
 use Rattle.rules.specs.Store.{Made}
 use Rattle.rules.specs.State.{State, Fact, is_plain}
-use Rattle.rules.specs.Reference.{fact_at, hyp_each, hyp_list}
+use Rattle.rules.specs.Reference.{fact_at, hyp_list}
 use Rattle.rules.specs.Laws.Sexp.{rest_item}
 use Rattle.rules.specs.Laws.Store.{then_ok, then_refuse}
 use Rattle.rules.specs.Laws.Theory.{All}
-use Rattle.rules.specs.Laws.Rising.{rising_rises, rising_all_of, has_all}
+use Rattle.rules.specs.Laws.Rising.{rising_all_of, has_all}
 use Rattle.sexp.specs.Encode.{encodes}
 use Rattle.sexp.specs.Items.{Holds, place}
-use Rattle.sexp.specs.Never.{never}
 use Rattle.sexp.specs.NthItem.{place_high, rest_holds}
 use Rattle.questions.specs.declared.Question.{Question}
 use Rattle.questions.specs.declared.Question.TheVariants.{Earlier}
@@ -30,31 +29,14 @@ use Rattle.state.specs.declared.sizes.Sizes.{Sizes}
 use Rattle.state.specs.Held.{records}
 use Rattle.state.specs.Rows.{plain_row}
 use Rattle.state.specs.FactLaws.{FactRow, fact_row_lem}
-use Rattle.state.specs.Members.{rises_rising}
 use Rattle.reading.specs.Items.{FirstItem, index_in, index_found}
 use Rattle.reading.specs.Given.{FactsItem}
 use Rattle.reading.specs.Answers.{HypsRead}
 use Rattle.referring.specs.Recall.{fact_of}
-use Rattle.referring.specs.Sources.{Missing}
+use Rattle.reading.specs.Earlier.{Missing}
 use Rattle.referring.specs.Laws.Refers.{fact_found, fact_none, fact_asks}
 use Rattle.inversion.specs.Inversions.{NamingForm, hypothesis_of, HypothesisRead}
-
--- A list of hypotheses rises ---------------------------------------------------------------------------------------------------------------
-
-rising_again : (n : ℕ) (a : Set) → rising n a ≡ rising n (has (rising n a))
-rising_again n a = sym (rises_rising n (rising n a) (rising_rises n a) (rising_all_of n a (λ v l e. l)))
-
-ok_rises : (n : ℕ) (o : Out Made (List ℕ)) (hs : List ℕ) (U : Made) → then o (λ is N. ok (rising n (has is)) N) ≡ ok hs U → hs ≡ rising n (has hs)
-unfolding then
-ok_rises n (ok is N) hs U e =
-    let q : rising n (has is) ≡ hs = cc in
-    sym q ∙ rising_again n (has is) ∙ ap (λ (xs : List ℕ). rising n (has xs)) q
-ok_rises n (refuse q d N) hs U e = never cc
-
-listed_rises : (p : Fact → Bool) (S : State) (x : Sexp) (hs : List ℕ) (U : Made) → hyp_list p S x U ≡ ok hs U → hs ≡ rising (length S.facts) (has hs)
-unfolding hyp_list items then
-listed_rises p S (atom b bs) hs U e = never cc
-listed_rises p S (list xs) hs U e = ok_rises (length S.facts) (hyp_each p S xs U) hs U e
+use Rattle.reading.specs.Laws.Lists.{listed_rises}
 
 -- Item by item -----------------------------------------------------------------------------------------------------------------------------
 

@@ -1,5 +1,5 @@
 -- The form `invert` behind its judgment: its cases are read, and the rules are gone through. Assumes nothing.
-use mathlib.Core.Path.{◌≡◌, refl, sym, ap, ◌∙◌, subst}
+use mathlib.Core.Path.{◌≡◌, refl, sym, ap, ◌∙◌}
 use mathlib.Core.List.{List, []}
 use Prim.Native.Nat.{ℕ, ◌-◌}
 use native.Mathlib.Omega.{arith}
@@ -22,7 +22,7 @@ use Rattle.terms.specs.declared.store.Mark.{Mark}
 use Rattle.terms.specs.Table.{made, tree}
 use Rattle.terms.specs.Sets.{holds}
 use Rattle.terms.specs.On.{Stopped, On, on_start, on_is, on_ok, on_no, on_pure, on_stop, on_done}
-use Rattle.terms.specs.Laws.Sets.{or_false}
+use Rattle.std.proofs.Math.Bool.{or-false}
 use Rattle.terms.specs.Laws.Zeros.{get_d_zeros}
 use Rattle.state.specs.declared.sizes.Sizes.{Sizes}
 use Rattle.state.specs.Held.{names, rule_lists}
@@ -36,7 +36,7 @@ use Rattle.inversion.proofs.InvertNames.{with_none}
 
 pub none_seen : (a : Set) → a ≡ union a (has [])
 unfolding has
-none_seen a = λ i v. sym (or_false (a v)) i
+none_seen a = λ i v. sym (or-false (a v)) i
 
 pub none_made : (base count n : ℕ) → Unmade base count (replicate n 0)
 none_made base count n = record { before = λ v l. get_d_zeros n v; behind = λ v l. get_d_zeros n v }
@@ -129,10 +129,8 @@ module _ {theory goals text symbols ins vars defs rules rulevars patterns facts 
           pub on_stopped : {q d : ℕ} → Stopped I W J X m turns q d new → Stopped I W J X m whole q d new
           on_stopped z = on_no _ begun z
 
-          pub on_read : {taken sorts copied : List ℕ} {k : ℕ} → copied ≡ sorts → Turned I W J X m S Y turns taken sorts n.vars k new →
-              InvertedOn I W J X m S whole copied k new
-          on_read {k = k} e z =
-              subst (λ (c : List ℕ). InvertedOn I W J X m S whole c k new) (sym e)
+          pub on_read : {taken sorts : List ℕ} {k : ℕ} → Turned I W J X m S Y turns taken sorts n.vars k new → InvertedOn I W J X m S whole sorts k new
+          on_read z =
               record {
                 went = on_done (on_is (on_ok _ begun z.went) (ap (λ (us : List Var). ok us (made J X new)) z.vars_are));
                 more = omega (arith, z.more, g.form.refers.reads.spelling.vars.stand.many);

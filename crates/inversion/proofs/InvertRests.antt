@@ -35,8 +35,9 @@ use Rattle.referring.specs.Recall.{fact_of}
 use Rattle.casework.specs.Context.{plainly, plains_of, others_of, trees_of, PlainAdds, Adds, matching, rests_by}
 use Rattle.inversion.specs.InvertRules.{verdict_of}
 use Rattle.casework.specs.Laws.Facts.{plains_append, others_append, plain_more}
-use Rattle.referring.specs.Laws.Refers.{no_entry}
+use Rattle.reading.specs.Laws.Lists.{no_entry}
 use Rattle.inversion.proofs.InvertVerdicts.{Answer}
+use Rattle.std.proofs.lemmas.Bool.{and_parts}
 
 -- Numbers and trees --------------------------------------------------------------------------------------------------------------------------
 
@@ -78,14 +79,6 @@ plain_apart none (more q qs) b [] ys e f = refl
 plain_apart none qs b (x ∷ xs) ys e f = absurd (false≢true e)
 plain_apart (more p ps) qs b xs ys e f = absurd (false≢true e)
 
-and_first : (a b : Bool) → a && b ≡ true → a ≡ true
-and_first true b e = refl
-and_first false b e = absurd (false≢true e)
-
-and_second : (a b : Bool) → a && b ≡ true → b ≡ true
-and_second true b e = e
-and_second false b e = absurd (false≢true e)
-
 module _ (f : Fact) where
   abbrev as_judged : Tree → Bool
   as_judged t = same_tree t f.judgment
@@ -94,8 +87,8 @@ module _ (f : Fact) where
       is_allowed f b ≡ is_none b.premises && (as_judged b.judgment && is_empty b.general)
   unfolding is_allowed
   allowed_is e b = λ i.
-      none_same b.premises f.premises (and_first (is_none f.premises) (is_empty f.general) e) i
-      && (as_judged b.judgment && empty_same b.general f.general (and_second (is_none f.premises) (is_empty f.general) e) i)
+      none_same b.premises f.premises (and_parts (is_none f.premises) (is_empty f.general) e).0 i
+      && (as_judged b.judgment && empty_same b.general f.general (and_parts (is_none f.premises) (is_empty f.general) e).1 i)
 
   -- a plain fact is one of those just where its judgment is one of theirs
   plain_any : is_none f.premises && is_empty f.general ≡ true → (bs : List Allowed) → any (is_allowed f) bs ≡ any as_judged (plains_of bs)

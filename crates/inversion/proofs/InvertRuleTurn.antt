@@ -34,8 +34,11 @@ use Rattle.referring.specs.Laws.Refers.{refers_recalls}
 use Rattle.sexp.specs.Items.{Holds}
 use Rattle.sexp.specs.WalkLaws.{walk_rest}
 use Rattle.casework.specs.Cases.{CasesIn, CaseFound, CaseHere}
-use Rattle.casework.specs.Context.{IDS, There}
-use Rattle.inversion.specs.InvertRules.{RuleVarsGiven, vars_with, CaseVarsGiven, CaseVarsAre, JudgedBy, Lacking, LackedBy, lacks, Having, has_case, Turning, TurnedBy}
+-- beside `Below` of trees
+use Rattle.terms.specs.Table.{Below as There}
+use Rattle.casework.specs.Context.{IDS}
+use Rattle.inversion.specs.InvertRules.{RuleVarsGiven, vars_with, CaseVarsGiven, CaseVarsAre, Lacking, LackedBy, lacks, Having, has_case, Turning, TurnedBy}
+use Rattle.reading.specs.Answers.{PassedBy}
 use Rattle.inversion.proofs.InvertNames.{with_length}
 use Rattle.casework.specs.Laws.Rows.{and_true}
 use Rattle.inversion.proofs.InvertVerdicts.{Answer}
@@ -267,7 +270,7 @@ module _ {theory goals text symbols ins vars defs rules rulevars patterns facts 
                 (λ z E. ok (record { vars = g.names.vars; seen = g.names.seen ++ c.vars }) E)))
 
             pub turn_judged : length new-taken ≡ length taken → (J X : List ℕ) (new : Mark) (b : Answer) →
-                JudgedBy I W J X m new (has_case g.S (take need list) count (tree I W m s) R context fact (tree I W m j) (made I W m)) b →
+                PassedBy I W J X m new (has_case g.S (take need list) count (tree I W m s) R context fact (tree I W m j) (made I W m)) b →
                 TurnedBy I W J X m new g.S g.inversion (invert_rule g.S g.inversion R g.names (made I W m)) new-taken sorts count count b
             turn_judged t J X new (Ok _) k =
                 record {

@@ -24,7 +24,7 @@ use Rattle.state.specs.RowCells.{no_fact}
 use Rattle.state.specs.RowTables.{entry_at}
 use Rattle.referring.specs.Recall.{fact_of, Recalls}
 use Rattle.referring.specs.Referral.{Gathered}
-use Rattle.casework.specs.Context.{There}
+use Rattle.terms.specs.Table.{Below}
 
 context_next : (fs : List Fact) (h : ℕ) (hs : List ℕ) → h < length fs → context_vars fs (h ∷ hs) ≡ union (mentioned (get_or fs h no_fact)) (context_vars fs hs)
 unfolding context_vars mentioned_at
@@ -57,7 +57,7 @@ taking_begins {I = I} {W} {m} {s} {j} {context} z v w a b =
 
 module _ {facts lists : List ℕ} {n : Sizes} {I W : List ℕ} {m : Mark} {s j : ℕ} {context seen set : List ℕ} {k : ℕ}
     (v : Taking facts lists n I W m s j context seen set k) where
-  pub taking_on : {seen' set' : List ℕ} → Recalls facts lists n I W m → There n.facts context → k < length context →
+  pub taking_on : {seen' set' : List ℕ} → Recalls facts lists n I W m → Below n.facts context → k < length context →
       length seen' ≡ length seen → length set' ≡ length set →
       ((g : Recalls facts lists n I W m) → Gathered I W m (mentioned (fact_of g.S (get_or context k 0))) (holds set) (holds seen') (holds set')) →
       Taking facts lists n I W m s j context seen' set' (k + 1)

@@ -27,9 +27,10 @@ use Rattle.state.specs.Entries.{part}
 use Rattle.state.specs.RowTables.{tabled_long}
 use Rattle.state.specs.FactLaws.{FactRow, fact_row_lem, facts_tabled}
 use Rattle.referring.specs.Recall.{fact_of}
-use Rattle.casework.specs.Context.{There, rests_by}
+use Rattle.terms.specs.Table.{Below}
+use Rattle.casework.specs.Context.{rests_by}
 use Rattle.inversion.specs.InvertRules.{Verdict, verdict_of}
-use Rattle.referring.specs.Laws.Refers.{no_entry}
+use Rattle.reading.specs.Laws.Lists.{no_entry}
 
 abbrev pub Answer : Type 0
 Answer = Result (Unit {0}) Question
@@ -65,7 +66,7 @@ module _ {facts : List ℕ} {n : Sizes} {i t : ℕ} {own : List ℕ} (g : Verdic
         g.owns ∙ ap (λ (c : Bool). part g.given.lists (elim c as (λ (c : Bool). Span) [ true ↦ hyps_span facts i | false ↦ record { from = 0; end = 0 } ])) (lt-ltb i n.facts l)
         ∙ row.hyps
 
-    pub verdict_there : There n.facts own
+    pub verdict_there : Below n.facts own
     verdict_there k h =
         subst (λ (xs : List ℕ). get_or xs k 0 < n.facts) (sym own_hyps)
         (all_at (fact_of g.given.S i).hyps k 0 row.hyps_below (subst (λ (xs : List ℕ). k < length xs) own_hyps h))

@@ -22,10 +22,12 @@ use Rattle.state.specs.Held.{Names, RuleLists, Ruled, records, Recorded}
 use Rattle.state.specs.Members.{Under}
 use Rattle.questions.specs.declared.Question.{Question}
 use Rattle.questions.specs.Numbers.{number_of, detail_of}
+use Rattle.inversion.specs.declared.inverting.Variables.{Variables}
 use Rattle.inversion.specs.declared.invert.Inverted.{Inverted}
 use Rattle.referring.specs.Recall.{Refers, fact_of}
 use Rattle.referring.specs.Derived.{derived_fact}
-use Rattle.casework.specs.Context.{There}
+-- beside `Below` of trees
+use Rattle.terms.specs.Table.{Below as There}
 use Rattle.inversion.specs.InvertRules.{Unmade, vars_with}
 
 -- a form of at least six items, read beside facts and rules; the variables of all trees made are among those of the state
@@ -85,19 +87,18 @@ invert_on S xs s j hs = do
   N ← invert_rules S (record { hypothesis = s; judgment = j; context = hs; cases = cs }) (rules_of S.theory (predicate_of s)) (record { vars = S.vars; seen = [] })
   pure N.vars
 
--- K answers k variables: those of before and those made, whose sorts are in the cells
+-- K answers k variables: those of before and those made, by their sorts
 pub record InvertedOn (I W J X : List ℕ) (old : Mark) (S : State) (K : Out Made (List Var)) (sorts : List ℕ) (k : ℕ) (new : Mark) : Type 0 where
   pub went : Went I W J X old K (vars_with S.vars sorts k) new
   pub more : length S.vars ≤ k
   pub few : k ≤ VARIABLES
   pub others : Unmade (length S.vars) k sorts
 
--- before, sorts: the cells of sorts before and afterwards
-abbrev pub InvertedOnBy : List ℕ → List ℕ → List ℕ → List ℕ → Mark → Mark → State → Out Made (List Var) → List ℕ → List ℕ → Result ℕ Question → Type 0
-InvertedOnBy I W J X old new S K before sorts (Ok k) = InvertedOn I W J X old S K sorts k new
-InvertedOnBy I W J X old new S K before sorts (Err q) = Stopped I W J X old K (number_of q) (detail_of q) new × (sorts ≡ before)
+abbrev pub InvertedOnBy : List ℕ → List ℕ → List ℕ → List ℕ → Mark → Mark → State → Out Made (List Var) → Result Variables Question → Type 0
+InvertedOnBy I W J X old new S K (Ok v) = InvertedOn I W J X old S K v.sorts v.count new
+InvertedOnBy I W J X old new S K (Err q) = Stopped I W J X old K (number_of q) (detail_of q) new
 
--- K answers the fact with judgment j, and k variables: those of before and those made, whose sorts are in the cells
+-- K answers the fact with judgment j, and k variables: those of before and those made, by their sorts
 pub record InvertedRead (I W J X : List ℕ) (old : Mark) (S : State) (K : Out Made (Fact × List Var)) (hyps footing sorts : List ℕ) (j k : ℕ) (new : Mark) : Type 0 where
   pub went : Went I W J X old K (derived_fact S (tree J X new j) hyps footing, vars_with S.vars sorts k) new
   pub there : j < new.terms
@@ -108,7 +109,7 @@ pub record InvertedRead (I W J X : List ℕ) (old : Mark) (S : State) (K : Out M
   pub others : Unmade (length S.vars) k sorts
 
 -- no reference of it is an instance
-abbrev pub InvertedBy : List ℕ → List ℕ → List ℕ → List ℕ → Mark → Mark → State → Out Made (Fact × List Var) → List ℕ → List ℕ → Result Inverted Question → Type 0
-InvertedBy I W J X old new S K before sorts (Ok a) =
-    InvertedRead I W J X old S K a.derived.support.hyps a.derived.support.footing sorts a.derived.judgment a.vars new × (a.derived.instances ≡ 0)
-InvertedBy I W J X old new S K before sorts (Err q) = Stopped I W J X old K (number_of q) (detail_of q) new × (sorts ≡ before)
+abbrev pub InvertedBy : List ℕ → List ℕ → List ℕ → List ℕ → Mark → Mark → State → Out Made (Fact × List Var) → Result Inverted Question → Type 0
+InvertedBy I W J X old new S K (Ok a) =
+    InvertedRead I W J X old S K a.derived.support.hyps a.derived.support.footing a.vars.sorts a.derived.judgment a.vars.count new × (a.derived.instances ≡ 0)
+InvertedBy I W J X old new S K (Err q) = Stopped I W J X old K (number_of q) (detail_of q) new

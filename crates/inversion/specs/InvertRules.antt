@@ -34,9 +34,10 @@ use Rattle.state.specs.Rows.{hyps_span}
 use Rattle.state.specs.Entries.{part}
 use Rattle.state.specs.Held.{VarsHeld, Names as Texts, RuleLists, Ruled}
 use Rattle.referring.specs.Recall.{Refers, Recalls, fact_of}
-use Rattle.inversion.specs.declared.meeting.Met.{Met as Found}
 use Rattle.casework.specs.Cases.{CaseItem, no_case}
-use Rattle.casework.specs.Context.{IDS, There, RenamedRule, RestsGiven, rests_by}
+-- beside `Below` of trees
+use Rattle.terms.specs.Table.{Below as There}
+use Rattle.casework.specs.Context.{IDS, RenamedRule, RestsGiven, rests_by}
 
 -- Variables ------------------------------------------------------------------------------------------------------------------------------
 
@@ -151,10 +152,11 @@ pub record Met (I W J X : List ℕ) (old : Mark) (K : Out Made (Option (List Bin
   pub binds : (i : ℕ) → i < length list → bound_of (made J X new) bound i ≡ some (renaming list i)
   pub cells : Cells new.terms bound
 
-abbrev pub MetBy : List ℕ → List ℕ → List ℕ → List ℕ → Mark → Mark → Out Made (Option (List Binding)) → List ℕ → Result (Option Found) Question → Type 0
-MetBy I W J X old new K list (Ok (some a)) = Met I W J X old K list a.bound a.theta new
-MetBy I W J X old new K list (Ok nothing) = Went I W J X old K nothing new
-MetBy I W J X old new K list (Err q) = Stopped I W J X old K (number_of q) (detail_of q) new
+-- theta: the cells afterwards, zero unless there is one
+abbrev pub MetBy : List ℕ → List ℕ → List ℕ → List ℕ → Mark → Mark → Out Made (Option (List Binding)) → List ℕ → List ℕ → Result (Option (List ℕ)) Question → Type 0
+MetBy I W J X old new K list theta (Ok (some bound)) = Met I W J X old K list bound theta new
+MetBy I W J X old new K list theta (Ok nothing) = Went I W J X old K nothing new × (theta ≡ replicate VARIABLES 0)
+MetBy I W J X old new K list theta (Err q) = Stopped I W J X old K (number_of q) (detail_of q) new × (theta ≡ replicate VARIABLES 0)
 
 -- A case is judged -------------------------------------------------------------------------------------------------------------------------
 
@@ -202,11 +204,6 @@ verdict_of S M i t plain fine = elim (entry S.facts i) [
     | true ↦ elim (all (λ h. rests_by M (fact_of S h) h plain fine) f.hyps) [ true ↦ Ok tt | false ↦ Err CaseHypotheses ]
   ]
 ]
-
--- K answers, or refuses by the question
-abbrev pub JudgedBy : List ℕ → List ℕ → List ℕ → List ℕ → Mark → Mark → Out Made (Unit {0}) → Result (Unit {0}) Question → Type 0
-JudgedBy I W J X old new K (Ok _) = Went I W J X old K tt new
-JudgedBy I W J X old new K (Err q) = Stopped I W J X old K (number_of q) (detail_of q) new
 
 -- A rule without a case, and one with it ---------------------------------------------------------------------------------------------------
 

@@ -1,4 +1,5 @@
 -- What is inverted, as it is lent, beside a store, and what is answered. Each is the relation of the same meaning over plain tables. Assumes nothing.
+use Rattle.state.specs.Records.{fact_rows, fact_feet}
 use Rattle.std.specs.Prelude.{◌≡◌, List, ℕ, Option, Result}
 use Rattle.rules.specs.Out.{Out}
 use Rattle.rules.specs.Store.{Made}
@@ -15,12 +16,11 @@ use Rattle.referring.specs.declared.source.Source.{Source}
 use Rattle.referring.specs.Sources.{source_names, rules_of}
 use Rattle.casework.specs.declared.context.Renamed.{Renamed}
 use Rattle.inversion.specs.declared.inverting.Inverting.{Inverting}
-use Rattle.inversion.specs.declared.meeting.Met.{Met}
 use Rattle.inversion.specs.declared.inverting.Variables.{Variables}
 use Rattle.inversion.specs.declared.inverting.Renaming.{Renaming}
 use Rattle.inversion.specs.declared.inverting.RuleVars.{RuleVars}
 use Rattle.inversion.specs.declared.invert.Inverted.{Inverted}
-use Rattle.inversion.specs.InvertRules.{RuleVarsGiven, CaseVarsGiven, KeptBy, Empty, Meeting, MetBy, Judging, JudgedBy, Verdict, Lacking, LackedBy, Having, Turning, TurnedBy}
+use Rattle.inversion.specs.InvertRules.{RuleVarsGiven, CaseVarsGiven, KeptBy, Empty, Meeting, MetBy, Judging, Verdict, Lacking, LackedBy, Having, Turning, TurnedBy}
 use Rattle.inversion.specs.Inversions.{NamingForm, InvertForm, InvertingOn, InvertedOnBy, InvertedBy}
 
 -- Scratch --------------------------------------------------------------------------------------------------------------------------
@@ -49,19 +49,16 @@ abbrev pub MeetingIn : Inverting → Store → Renaming → Type 0
 MeetingIn v s own =
     Meeting v.source.reader.symbols.now v.rules.rows.now v.rules.patterns.now v.source.reader.n s.index.now s.words.now s.mark own.rule v.hypothesis own.count own.vars.now
 
-abbrev pub MetAs : Store → Store → Out Made (Option (List Binding)) → List ℕ → Result (Option Met) Question → Type 0
-MetAs s t K list r = MetBy s.index.now s.words.now t.index.now t.words.now s.mark t.mark K list r
+abbrev pub MetAs : Store → Store → Out Made (Option (List Binding)) → List ℕ → List ℕ → Result (Option (List ℕ)) Question → Type 0
+MetAs s t K list theta r = MetBy s.index.now s.words.now t.index.now t.words.now s.mark t.mark K list theta r
 
 -- t: the case's judgment
 abbrev pub JudgingIn : Inverting → Store → Renamed → ℕ → List ℕ → List ℕ → Type 0
 JudgingIn v s m t memo ids =
-    Judging v.source.reader.symbols.now v.rules.rows.now v.rules.patterns.now v.source.rows.now v.source.lists.now v.source.reader.n s.index.now s.words.now s.mark m.rule t m.bound.now m.theta.now memo v.context.now ids
-
-abbrev pub JudgedAs : Store → Store → Out Made (Unit {0}) → Result (Unit {0}) Question → Type 0
-JudgedAs s t K r = JudgedBy s.index.now s.words.now t.index.now t.words.now s.mark t.mark K r
+    Judging v.source.reader.symbols.now v.rules.rows.now v.rules.patterns.now (fact_rows v.source.records.now) v.source.lists.now v.source.reader.n s.index.now s.words.now s.mark m.rule t m.bound.now m.theta.now memo v.context.now ids
 
 abbrev pub VerdictIn : Facts → ℕ → ℕ → List ℕ → Type 0
-VerdictIn f i t own = Verdict f.rows.now f.n i t own
+VerdictIn f i t own = Verdict (fact_rows f.records.now) f.n i t own
 
 abbrev pub LackingIn : Inverting → Store → RuleVars → Variables → Type 0
 LackingIn v s u x =
@@ -72,13 +69,13 @@ LackedAs s t vs K x y r = LackedBy s.index.now s.words.now t.index.now t.words.n
 
 abbrev pub HavingIn : Inverting → Store → Renaming → List ℕ → Type 0
 HavingIn v s own ids =
-    Having v.source.reader.symbols.now v.rules.rows.now v.rules.patterns.now v.source.rows.now v.source.lists.now v.source.reader.n s.index.now s.words.now s.mark own.rule v.hypothesis v.judgment own.vars.now v.context.now own.count ids
+    Having v.source.reader.symbols.now v.rules.rows.now v.rules.patterns.now (fact_rows v.source.records.now) v.source.lists.now v.source.reader.n s.index.now s.words.now s.mark own.rule v.hypothesis v.judgment own.vars.now v.context.now own.count ids
 
 -- From rule to rule ----------------------------------------------------------------------------------------------------------------
 
 abbrev pub TurningIn : Inverting → List ℕ → Store → Variables → Type 0
 TurningIn v cells s x =
-    Turning (source_names v.source) (rules_of v.source v.rules) v.source.rows.now v.source.lists.now v.source.reader.n s.index.now s.words.now s.mark cells v.hypothesis v.judgment v.context.now x.taken x.sorts x.count
+    Turning (source_names v.source) (rules_of v.source v.rules) (fact_rows v.source.records.now) v.source.lists.now v.source.reader.n s.index.now s.words.now s.mark cells v.hypothesis v.judgment v.context.now x.taken x.sorts x.count
 
 abbrev pub TurnedAs : Store → Store → State → Inversion → Out Made Names → Variables → Variables → Result (Unit {0}) Question → Type 0
 TurnedAs s t S Y K x y r = TurnedBy s.index.now s.words.now t.index.now t.words.now s.mark t.mark S Y K y.taken y.sorts x.count y.count r
@@ -87,18 +84,17 @@ TurnedAs s t S Y K x y r = TurnedBy s.index.now s.words.now t.index.now t.words.
 
 -- its hypotheses
 abbrev pub NamesHypothesis : Source → List ℕ → Type 0
-NamesHypothesis s cells = NamingForm s.reader.text.now s.rows.now s.reader.n cells
+NamesHypothesis s cells = NamingForm s.reader.text.now (fact_rows s.records.now) s.reader.n cells
 
 abbrev pub InvertsForm : Source → Rules → Store → List ℕ → Type 0
-InvertsForm s p t cells = InvertForm (source_names s) (rules_of s p) s.rows.now s.footings.now s.lists.now s.reader.n t.index.now t.words.now t.mark cells
+InvertsForm s p t cells = InvertForm (source_names s) (rules_of s p) (fact_rows s.records.now) (fact_feet s.records.now) s.lists.now s.reader.n t.index.now t.words.now t.mark cells
 
 abbrev pub InvertsOn : Inverting → Store → List ℕ → Type 0
 InvertsOn v s cells =
-    InvertingOn (source_names v.source) (rules_of v.source v.rules) v.source.rows.now v.source.lists.now v.source.reader.n s.index.now s.words.now s.mark cells v.hypothesis v.judgment v.context.now
+    InvertingOn (source_names v.source) (rules_of v.source v.rules) (fact_rows v.source.records.now) v.source.lists.now v.source.reader.n s.index.now s.words.now s.mark cells v.hypothesis v.judgment v.context.now
 
--- before, sorts: the cells of sorts before and afterwards
-abbrev pub InvertedOnAs : Store → Store → State → Out Made (List Var) → List ℕ → List ℕ → Result ℕ Question → Type 0
-InvertedOnAs s t S K before sorts r = InvertedOnBy s.index.now s.words.now t.index.now t.words.now s.mark t.mark S K before sorts r
+abbrev pub InvertedOnAs : Store → Store → State → Out Made (List Var) → Result Variables Question → Type 0
+InvertedOnAs s t S K r = InvertedOnBy s.index.now s.words.now t.index.now t.words.now s.mark t.mark S K r
 
-abbrev pub InvertedAs : Store → Store → State → Out Made (Fact × List Var) → List ℕ → List ℕ → Result Inverted Question → Type 0
-InvertedAs s t S K before sorts r = InvertedBy s.index.now s.words.now t.index.now t.words.now s.mark t.mark S K before sorts r
+abbrev pub InvertedAs : Store → Store → State → Out Made (Fact × List Var) → Result Inverted Question → Type 0
+InvertedAs s t S K r = InvertedBy s.index.now s.words.now t.index.now t.words.now s.mark t.mark S K r

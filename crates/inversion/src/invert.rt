@@ -9,7 +9,8 @@ ghost use Rattle.terms.specs.Lent.{SameTables, made_of};
 ghost use Rattle.terms.specs.Sets.{holds};
 ghost use Rattle.state.specs.Held.{VarsHeld};
 ghost use Rattle.referring.specs.Sources.{RecallsIn, facts_of};
-ghost use Rattle.casework.specs.Context.{IDS, There};
+ghost use Rattle.terms.specs.Table.{Below};
+ghost use Rattle.casework.specs.Context.{IDS};
 ghost use Rattle.inversion.specs.InvertRules.{vars_with};
 ghost use Rattle.inversion.specs.Inversions.{hypothesis_of, HypothesisAs, invert_on};
 ghost use Rattle.inversion.specs.Inverting.{NamesHypothesis, InvertsForm, InvertsOn, InvertedOnAs, InvertedAs};
@@ -24,29 +25,28 @@ use referring::support::{Derived, Support};
 use rules::{FACTS, TERMWORDS, VARIABLES, VARIABLEWORDS};
 use sexp::items;
 use sexp::items::Item;
-use state::facts::{is_plain, judgment as judgment_of};
+use state::recorded::{is_plain, judgment as judgment_of};
 use state::vars::put_var;
 use terms::sets::{insert, write_out};
 use terms::store::{Store, Terms};
 use terms::variables::visit;
 
-// The fact that is derived, and how many variables there are with those made.
-#[derive(Clone, Copy)]
+// The fact that is derived, and the variables with those made.
+#[derive(Drop)]
 pub struct Inverted {
     pub derived: Derived,
-    pub vars: usize,
+    pub vars: Variables,
 }
 
-// The rows of the variables from `count` up to `end`, which were made and have no name; their sorts are in the cells.
-pub fn put_made(vars: &mut [u32], sorts: &[u32], count: usize, end: usize)
-    requires { ((goals : List ℕ) × (text : List ℕ) × (vs : List Var) × VarsHeld goals text vars.old count vs) × (count ≤ end) × (end ≤ VARIABLES)
-        × (length sorts.now ≡ VARIABLES) }
+// The rows of the variables from `count` on, which were made and have no name.
+pub fn put_made(vars: &mut [u32], count: usize, made: &Variables)
+    requires { ((goals : List ℕ) × (text : List ℕ) × (vs : List Var) × VarsHeld goals text vars.old count vs) × (count ≤ made.now.count) × (made.now.count ≤ VARIABLES) }
     ensures { (goals text : List ℕ) (vs : List Var) → VarsHeld goals text vars.old count vs →
-        VarsHeld goals text vars.new end (vars_with vs sorts.now end) }
+        VarsHeld goals text vars.new made.now.count (vars_with vs made.now.sorts made.now.count) }
 {
     let nowhere = Span { from: 0, end: 0 };
-    for v in count..end {
-        put_var(vars, v, sorts[v] as usize, None, nowhere);
+    for v in count..made.count {
+        put_var(vars, v, made.sorts[v] as usize, None, nowhere);
     }
 }
 
@@ -54,7 +54,7 @@ impl Inverting<'_> {
     // The variables of the hypothesis, of the judgment and of the facts of the context, which a case's variables must be new to, as a set.
     fn taken_vars(&self, terms: &Terms<'_>) -> [u64; VARIABLEWORDS]
         requires { RecallsIn (facts_of self.now.source) terms.now × (self.now.hypothesis < terms.now.mark.terms) × (self.now.judgment < terms.now.mark.terms)
-            × There self.now.source.reader.n.facts self.now.context.now }
+            × Below self.now.source.reader.n.facts self.now.context.now }
         ensures taken { (g : RecallsIn (facts_of self.now.source) terms.now) (Y : Inversion) → let t = terms.now in
             Y.hypothesis ≡ tree t.index.now t.words.now t.mark self.now.hypothesis → Y.judgment ≡ tree t.index.now t.words.now t.mark self.now.judgment →
             Y.context ≡ self.now.context.now → holds result ≡ taken_vars g.S Y }
@@ -71,23 +71,21 @@ impl Inverting<'_> {
         set
     }
 
-    // The rest of the form behind its judgment: how many variables there are then. The sorts of made ones come into the cells, each at its number, and
-    // zero into the others. `memo` and `ids` are scratch: zero before and after.
+    // The rest of the form behind its judgment: the variables that there are then. `memo` and `ids` are scratch: zero before and after.
     fn invert_on(
         &self,
         store: &mut Store<'_>,
         cells: &[u32],
-        sorts: &mut [u32],
         memo: &mut [u32],
         ids: &mut [u32],
-    ) -> Result<usize, Question>
-        requires inverts_on { InvertsOn self.now store.old cells.now × (length sorts.old ≡ VARIABLES) }
+    ) -> Result<Variables, Question>
+        requires inverts_on { InvertsOn self.now store.old cells.now }
         requires empty { (memo.old ≡ replicate TERMS 0) × (ids.old ≡ replicate IDS 0) }
         ensures same_tables { SameTables store.old store.new }
         ensures inverted_on_as { (g : InvertsOn self.now store.old cells.now) → let s = store.old in let v = self.now in
             InvertedOnAs s store.new g.form.S
             (invert_on g.form.S g.form.xs (tree s.index.now s.words.now s.mark v.hypothesis) (tree s.index.now s.words.now s.mark v.judgment) v.context.now (made_of s))
-            sorts.old sorts.new result }
+            result }
         ensures memo_unchanged { (memo.new ≡ memo.old) × (ids.new ≡ ids.old) }
     {
         let Item::List(a, b) = items::nth(cells, 5) else {
@@ -102,8 +100,7 @@ impl Inverting<'_> {
             count: reader.n.vars,
         };
         self.all_rules(store, inner, &mut names, memo, ids)?;
-        sorts.copy_from_slice(&names.sorts);
-        Ok(names.count)
+        Ok(names)
     }
 }
 
@@ -114,30 +111,31 @@ fn hypothesis(source: &Source<'_>, cells: &[u32], hyps: &mut [u64]) -> Result<us
 {
     let at = items::place(cells, 2);
     let i = source.earlier(&cells[at..])?;
-    if !is_plain(source.rows, i) {
+    if !is_plain(source.records, i) {
         return Err(Question::Hypothesis);
     }
     let third = items::place(cells, 3);
-    source.reader.any_hyps(source.rows, &cells[third..], hyps)?;
+    source
+        .reader
+        .any_hyps(source.records, &cells[third..], hyps)?;
     Ok(i)
 }
 
-// The form, whose items the cells hold. The sorts of variables that are made come into `sorts`, each at its number, and zero into the others; their rows
-// are for the caller to write (`put_made`). `memo` and `ids` are scratch: zero before and after; they are no struct: see `induction::induct`.
+// The form, whose items the cells hold. The rows of the variables that are made are for the caller to write (`put_made`). `memo` and `ids` are scratch:
+// zero before and after; they are no struct: see `induction::induct`.
 pub fn invert(
     source: &Source<'_>,
     rules: &Rules<'_>,
     store: &mut Store<'_>,
     cells: &[u32],
-    sorts: &mut [u32],
     memo: &mut [u32],
     ids: &mut [u32],
 ) -> Result<Inverted, Question>
-    requires inverts_form { InvertsForm source.now rules.now store.old cells.now × (length sorts.old ≡ VARIABLES) }
+    requires inverts_form { InvertsForm source.now rules.now store.old cells.now }
     requires empty { (memo.old ≡ replicate TERMS 0) × (ids.old ≡ replicate IDS 0) }
     ensures same_tables { SameTables store.old store.new }
     ensures inverted_as { (g : InvertsForm source.now rules.now store.old cells.now) →
-        InvertedAs store.old store.new g.S (invert g.S g.xs (made_of store.old)) sorts.old sorts.new result }
+        InvertedAs store.old store.new g.S (invert g.S g.xs (made_of store.old)) result }
     ensures memo_unchanged { (memo.new ≡ memo.old) × (ids.new ≡ ids.old) }
 {
     let mut support = Support::NONE;
@@ -150,11 +148,11 @@ pub fn invert(
     let inverting = Inverting {
         source: *source,
         rules: *rules,
-        hypothesis: judgment_of(source.rows, fact),
+        hypothesis: judgment_of(source.records, fact),
         judgment,
         context: &list[..many],
     };
-    let vars = inverting.invert_on(store, cells, sorts, memo, ids)?;
+    let vars = inverting.invert_on(store, cells, memo, ids)?;
     insert(&mut support.hyps, fact);
     Ok(Inverted {
         derived: Derived {

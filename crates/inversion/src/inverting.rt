@@ -13,7 +13,8 @@ pub struct Inverting<'a> {
     pub context: &'a [u32],
 }
 
-// The variables of a rule by its number, and how many they are.
+// The variables of a rule by its number, and how many they are. No one struct with `OneRule` of derivation: with the count kept here, the contracts
+// speak of the table of variables alone, and not of the rule's row as well.
 #[derive(Clone, Copy)]
 pub struct RuleVars<'a> {
     pub rules: Rules<'a>,

@@ -1,5 +1,6 @@
 // The case of a rule that meets the hypothesis, judged under the unifier: its fact concludes the judgment (questions 34 and 43), and rests on what is
 // allowed (question 44).
+ghost use Rattle.state.specs.Records.{fact_rows};
 ghost use Rattle.std.specs.Prelude.{◌≡◌, get_or};
 ghost use Rattle.rules.specs.Tree.{var};
 ghost use Rattle.rules.specs.Theory.{rule};
@@ -12,20 +13,21 @@ ghost use Rattle.terms.specs.Theta.{bindings};
 ghost use Rattle.state.specs.Entries.{part};
 ghost use Rattle.referring.specs.Sources.{RecallsIn};
 ghost use Rattle.inversion.specs.InvertRules.{judged, judges, own_span, verdict_of};
-ghost use Rattle.inversion.specs.Inverting.{JudgingIn, JudgedAs, VerdictIn};
+ghost use Rattle.inversion.specs.Inverting.{JudgingIn, VerdictIn};
+ghost use Rattle.reading.specs.Answers.{PassedAs};
 
 use crate::inverting::Inverting;
 use casework::context::{Grounds, Renamed, context_facts, no_grounds, rests_on_all, rule_premises};
 use questions::Question;
 use referring::source::Facts;
-use state::facts::is_fact;
+use state::recorded::is_fact;
 use terms::store::Store;
 use terms::substitute::substitute;
 
 // The hypotheses of fact i; none where there is no such fact.
 fn own_hyps<'a>(facts: &Facts<'a>, i: usize) -> &'a [u32]
     requires { (t : Terms) × RecallsIn facts.now t }
-    ensures { result.now ≡ part facts.now.lists.now (own_span facts.now.rows.now facts.now.n i) }
+    ensures { result.now ≡ part facts.now.lists.now (own_span (fact_rows facts.now.records.now) facts.now.n i) }
 {
     if is_fact(facts.n, i) {
         return facts.hyps(i);
@@ -60,7 +62,7 @@ impl Inverting<'_> {
         requires { JudgingIn self.now store.old renamed.now t memo.old ids.old }
         ensures same_tables { SameTables store.old store.new }
         ensures judged_as { (g : JudgingIn self.now store.old renamed.now t memo.old ids.old) → let s = store.old in
-            JudgedAs s store.new (judged g.recalls.S (rule g.renamed.T renamed.now.rule) (renaming g.renamed.xs) (bindings (made_of s) renamed.now.theta.now 0)
+            PassedAs s store.new (judged g.recalls.S (rule g.renamed.T renamed.now.rule) (renaming g.renamed.xs) (bindings (made_of s) renamed.now.theta.now 0)
             self.now.context.now i (tree s.index.now s.words.now s.mark t) (made_of s)) result }
         ensures memo_unchanged { (memo.new ≡ memo.old) × (ids.new ≡ ids.old) }
     {
@@ -84,7 +86,7 @@ impl Inverting<'_> {
         requires { JudgingIn self.now store.old renamed.now self.now.judgment memo.old ids.old }
         ensures same_tables { SameTables store.old store.new }
         ensures judged_as { (g : JudgingIn self.now store.old renamed.now self.now.judgment memo.old ids.old) → let s = store.old in
-            JudgedAs s store.new (judges g.recalls.S (rule g.renamed.T renamed.now.rule) (renaming g.renamed.xs) (bindings (made_of s) renamed.now.theta.now 0)
+            PassedAs s store.new (judges g.recalls.S (rule g.renamed.T renamed.now.rule) (renaming g.renamed.xs) (bindings (made_of s) renamed.now.theta.now 0)
             self.now.context.now i (tree s.index.now s.words.now s.mark self.now.judgment) (made_of s)) result }
         ensures memo_unchanged { (memo.new ≡ memo.old) × (ids.new ≡ ids.old) }
     {

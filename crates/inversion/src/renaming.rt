@@ -7,7 +7,7 @@ ghost use Rattle.rules.specs.State.{Var};
 ghost use Rattle.rules.specs.Invert.{suit};
 ghost use Rattle.terms.specs.Sets.{holds};
 ghost use Rattle.state.specs.Held.{VarCells};
-ghost use Rattle.casework.specs.Context.{There};
+ghost use Rattle.terms.specs.Table.{Below};
 ghost use Rattle.inversion.specs.InvertRules.{MadeAs, CaseVarsAs};
 ghost use Rattle.inversion.specs.Inverting.{RuleVarsIn, CaseVarsIn};
 
@@ -22,7 +22,7 @@ use terms::sets::has;
 
 // Whether none of the variables is in the set.
 fn all_new(list: &[u32], taken: &[u64]) -> bool
-    requires { There (64 * length taken.now) list.now }
+    requires { Below (64 * length taken.now) list.now }
     ensures { result ≡ all (λ v. not (holds taken.now v)) list.now }
 {
     for v in list {
@@ -36,7 +36,7 @@ fn all_new(list: &[u32], taken: &[u64]) -> bool
 impl RuleVars<'_> {
     // Whether the variables are as many as the rule has, each of its sort.
     fn suits(&self, vars: &[u32], list: &[u32]) -> bool
-        requires { RuleVarsIn self.now × ((vs : List Var) × (count : ℕ) × VarCells vars.now count vs) × There VARIABLES list.now }
+        requires { RuleVarsIn self.now × ((vs : List Var) × (count : ℕ) × VarCells vars.now count vs) × Below VARIABLES list.now }
         ensures { (g : RuleVarsIn self.now) (vs : List Var) (count : ℕ) → VarCells vars.now count vs →
             result ≡ suit vs list.now (rule g.T self.now.rule).vars }
     {

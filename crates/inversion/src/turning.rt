@@ -8,7 +8,8 @@ ghost use Rattle.terms.specs.Lent.{GoodTerms, SameTables, made_of};
 ghost use Rattle.unification.specs.Unify.{SameScratch};
 ghost use Rattle.casework.specs.Context.{IDS};
 ghost use Rattle.inversion.specs.InvertRules.{vars_with, lacks, has_case};
-ghost use Rattle.inversion.specs.Inverting.{EmptyScratch, ScratchKept, LackingIn, LackedAs, HavingIn, JudgedAs, TurningIn, TurnedAs};
+ghost use Rattle.inversion.specs.Inverting.{EmptyScratch, ScratchKept, LackingIn, LackedAs, HavingIn, TurningIn, TurnedAs};
+ghost use Rattle.reading.specs.Answers.{PassedAs};
 
 use crate::inverting::{Inverting, Renaming, RuleVars, Variables};
 use casework::cases::find_case;
@@ -58,7 +59,8 @@ impl Inverting<'_> {
             vars: &list[..need.count],
             count: names.count,
         };
-        match self.meet(store, &own, scratch)? {
+        let mut theta = [0u32; VARIABLES];
+        match self.meet(store, &own, &mut theta, scratch)? {
             None => Ok(()),
             Some(_) => Err(Question::MissingCase),
         }
@@ -77,19 +79,20 @@ impl Inverting<'_> {
         requires empty { EmptyScratch scratch.old }
         ensures same_tables { SameTables store.old store.new }
         ensures judged_as { (g : HavingIn self.now store.old own.now ids.old) → let s = store.old in
-            JudgedAs s store.new (has_case g.recalls.S own.now.vars.now own.now.count (tree s.index.now s.words.now s.mark self.now.hypothesis)
+            PassedAs s store.new (has_case g.recalls.S own.now.vars.now own.now.count (tree s.index.now s.words.now s.mark self.now.hypothesis)
             (rule g.recalls.S.theory own.now.rule) self.now.context.now i (tree s.index.now s.words.now s.mark self.now.judgment) (made_of s)) result }
         ensures same_scratch { SameScratch scratch.old scratch.new }
         ensures scratch_kept { ScratchKept scratch.old scratch.new }
         ensures ids_unchanged { ids.new ≡ ids.old }
     {
-        let Some(met) = self.meet(store, own, scratch)? else {
+        let mut theta = [0u32; VARIABLES];
+        let Some(bound) = self.meet(store, own, &mut theta, scratch)? else {
             return Err(Question::CannotConclude);
         };
         let renamed = Renamed {
             rule: own.rule,
-            bound: &met.bound,
-            theta: &met.theta,
+            bound: &bound,
+            theta: &theta,
         };
         let memo = &mut *scratch.memo;
         self.judge(store, &renamed, i, memo, ids)

@@ -3,8 +3,8 @@ use mathlib.Core.Path.{◌≡◌, refl, sym, ap, ◌∙◌}
 use Prim.Native.Nat.{ℕ, ◌-◌, ◌*◌, ◌≤◌}
 use mathlib.Core.List.{List, ◌++◌}
 use native.Mathlib.Omega.{arith}
-use lib.ListN.{length, take, drop, replicate, length-append, length-drop}
-use lib.Seq.{take_at, length-take-le}
+use lib.ListN.{length, take, replicate, length-append}
+use lib.Seq.{take_at}
 use Rattle.rules.specs.Limits.{SORTS, SYMBOLS, ARGUMENTS, RULES, RULEVARS, PATTERNS}
 use Rattle.rules.specs.Sexp.{Name}
 use Rattle.rules.specs.Theory.{Theory, Symbol, Rule}
@@ -113,6 +113,3 @@ module _ {text : List ℕ} {t : TheoryLists} (T : Theory) (h : TheoryHeld text t
           vars_named = h.rules.vars_named;
         };
       }
-
-pub longer : (n : ℕ) (ys l : List ℕ) → n ≤ length l → length ys ≡ length (take n l) → length (ys ++ drop n l) ≡ length l
-longer n ys l h e = omega (arith, length-append ys (drop n l), e, length-take-le n l h, length-drop n l)

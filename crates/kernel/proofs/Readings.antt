@@ -1,14 +1,16 @@
 -- The entries of the tables of sorts and symbols, as the readers read them. Assumes nothing.
 use mathlib.Core.Path.{◌≡◌, refl, sym, ap, ◌∙◌}
-use Prim.Native.Nat.{ℕ, ◌+◌, ◌*◌, ◌<◌, ◌≤◌}
+use Prim.Native.Nat.{ℕ, suc, ◌+◌, ◌*◌, ◌/◌, ◌^◌, ◌<◌, ◌≤◌}
 use mathlib.Core.Bool.{Bool, true, false}
-use Rattle.std.specs.Prelude.{Some as some, None as nothing, Option}
-use mathlib.Core.List.{List, []}
+use Rattle.std.specs.Prelude.{Some as some, None as nothing, Option, count_by, cond}
+use Rattle.std.specs.Simd.{first_chunks}
+use Rattle.std.proofs.lemmas.List.Sums.{sum_by-cons}
+use mathlib.Core.List.{List, [], ◌∷◌}
 use native.Mathlib.Omega.{arith}
 use native.Mathlib.Numerals.{add-one}
 use lib.Dec.{eqb}
-use Rattle.std.proofs.Common.{drop_of_length-le, drop-cons}
-use lib.ListN.{length, drop, get_or}
+use Rattle.std.proofs.Common.{take_at}
+use lib.ListN.{length, take, get_or}
 use borrow.Author.Tests.{eq-eqb, ne_eqb}
 use Rattle.rules.specs.Limits.{SORTS, ARGUMENTS}
 use Rattle.rules.specs.Text.{same}
@@ -23,7 +25,8 @@ use Rattle.kernel.specs.Held.{SortsHeld, SomeSorts, SymbolsHeld}
 use Rattle.kernel.specs.Readers.{KnownSymbol, KnownInput, NamedSymbols, CountedSymbols}
 use Rattle.kernel.specs.Entries.{known_symbol}
 use Rattle.kernel.specs.Listing.{next_constructor}
-use Rattle.kernel.specs.SignatureRows.{sorts_rows, sorts_few, symbols_rows, symbols_few, input_place}
+use Rattle.rules.specs.TheoryTables.{name_cells, rows, symbol_row}
+use Rattle.kernel.specs.SignatureRows.{sorts_rows, sorts_few, symbols_rows, symbols_cells, symbols_few, input_place}
 use Rattle.sexp.specs.FoundLaws.{found_at, found_missing, found_inside}
 
 -- Symbols by number --------------------------------------------------------------------------------------------------------------
@@ -115,63 +118,39 @@ module _ {symbols : List ℕ} {count sort from i : ℕ} (k : Scanning symbols co
 
 -- How many there are ----------------------------------------------------------------------------------------------------------------
 
--- so many constructors are before a number
-pub record Counting (symbols : List ℕ) (count sort n from : ℕ) : Type 0 where
-  pub counted : CountedSymbols symbols count
-  pub low : n ≤ from
-  pub high : from ≤ count
-  pub same : (T : Theory) (text inputs : List ℕ) → SymbolsHeld text symbols inputs count T.symbols →
-      n + length (every (λ c. eqb c.output sort) (drop from T.symbols) from) ≡ length (constructors T sort)
+-- the rows of the symbols with that output
+rows_counted : (sort : ℕ) (ss : List Symbol) (i : ℕ) →
+    count_by (λ row. eqb (get_or row 0 0) sort) (first_chunks 4 (length ss) (rows symbol_row ss)) ≡ length (every (λ c. eqb c.output sort) ss i)
+unfolding rows symbol_row name_cells every
+rows_counted sort [] i = refl
+rows_counted sort (s ∷ ss) i =
+    sum_by-cons (λ (row : List ℕ). cond (eqb (get_or row 0 0) sort) 1 0) (symbol_row s) (first_chunks 4 (length ss) (rows symbol_row ss))
+    ∙ go (eqb s.output sort) i (every (λ c. eqb c.output sort) ss (suc i)) (rows_counted sort ss (suc i))
+  where
+    go : (b : Bool) {n : ℕ} (k : ℕ) (ks : List ℕ) → n ≡ length ks → cond b 1 0 + n ≡ length {A = ℕ} (elim b [ true ↦ k ∷ ks | false ↦ ks ])
+    go true k ks e = omega (arith, e)
+    go false k ks e = omega (arith, e)
 
-pub counting_start : (symbols : List ℕ) (count sort : ℕ) → CountedSymbols symbols count → Counting symbols count sort 0 0
+module _ {text symbols inputs : List ℕ} {count : ℕ} {ss : List Symbol} (h : SymbolsHeld text symbols inputs count ss) where
+  counted_rows : take (4 * count) symbols ≡ rows symbol_row ss
+  counted_rows = ap (take (4 * count)) h.front.is ∙ take_at (rows symbol_row ss) h.front.rest (4 * count) (symbols_cells h)
+
+  pub counted_small : 4 * count < 2 ^ 64
+  counted_small = omega (arith, symbols_few h)
+
+  pub counted_room : 4 * count ≡ length (take (4 * count) symbols)
+  counted_room = omega (arith, ap length counted_rows, symbols_cells h)
+
+  counted_every : (sort : ℕ) →
+      count_by (λ row. eqb (get_or row 0 0) sort) (first_chunks 4 (length (take (4 * count) symbols) / 4) (take (4 * count) symbols))
+      ≡ length (every (λ c. eqb c.output sort) ss 0)
+  counted_every sort =
+      let p : List ℕ → Bool = λ row. eqb (get_or row 0 0) sort in
+      let e : length (rows symbol_row ss) / 4 ≡ length ss = omega (arith, symbols_cells h, h.many) in
+      ap (λ (cells : List ℕ). count_by p (first_chunks 4 (length cells / 4) cells)) counted_rows
+      ∙ ap (λ (k : ℕ). count_by p (first_chunks 4 k (rows symbol_row ss))) e ∙ rows_counted sort ss 0
+
+pub counted : (T : Theory) {text symbols inputs : List ℕ} {count : ℕ} → SymbolsHeld text symbols inputs count T.symbols → (sort : ℕ) →
+    count_by (λ row. eqb (get_or row 0 0) sort) (first_chunks 4 (length (take (4 * count) symbols) / 4) (take (4 * count) symbols)) ≡ length (constructors T sort)
 unfolding constructors
-counting_start symbols count sort s = record { counted = s; low = omega arith; high = omega arith; same = λ T text ins h. omega arith }
-
--- a constructor more, or none
-counts_on : (p : Symbol → Bool) (ss : List Symbol) (i : ℕ) → i < length ss → (b : Bool) → p (get_or ss i no_symbol) ≡ b →
-    length (every p (drop i ss) i) ≡ elim b [ true ↦ 1 | false ↦ 0 ] + length (every p (drop (i + 1) ss) (i + 1))
-unfolding every
-counts_on p ss i l true e = rw (drop-cons ss i no_symbol l, every, e, add-one) (omega arith)
-counts_on p ss i l false e = rw (drop-cons ss i no_symbol l, every, e, add-one) (omega arith)
-
-module _ {symbols : List ℕ} {count sort n i : ℕ} (k : Counting symbols count sort n i) where
-  module _ (l : i < count) where
-    pub counting_known : KnownSymbol symbols i
-    counting_known = known_symbol k.counted.1.1.1 l
-
-    module _ (r : ℕ) (a : (T : Theory) (text inputs : List ℕ) (m : ℕ) → SymbolsHeld text symbols inputs m T.symbols → i < m → r ≡ output T i) where
-      pub counting_in : r ≡ sort → Counting symbols count sort (n + 1) (i + 1)
-      unfolding output
-      counting_in e =
-          record {
-            counted = k.counted;
-            low = omega (arith, k.low);
-            high = omega (arith, l);
-            same = λ T text ins h.
-                omega (
-                  arith,
-                  k.same T text ins h,
-                  counts_on (λ c. eqb c.output sort) T.symbols i (omega (arith, l, h.many)) true (eq-eqb _ _ (sym (a T text ins count h l) ∙ e)),
-                );
-          }
-
-      pub counting_out : (r ≡ sort → ⊥) → Counting symbols count sort n (i + 1)
-      unfolding output
-      counting_out e =
-          record {
-            counted = k.counted;
-            low = omega (arith, k.low);
-            high = omega (arith, l);
-            same = λ T text ins h.
-                omega (
-                  arith,
-                  k.same T text ins h,
-                  counts_on (λ c. eqb c.output sort) T.symbols i (omega (arith, l, h.many)) false (ne_eqb _ _ (λ q. e (a T text ins count h l ∙ q))),
-                );
-          }
-
-  pub counting_over : count ≤ i → (T : Theory) (text ins : List ℕ) → SymbolsHeld text symbols ins count T.symbols → n ≡ length (constructors T sort)
-  unfolding every
-  counting_over l T text ins h =
-      let z : drop i T.symbols ≡ [] = drop_of_length-le T.symbols (omega (arith, l, h.many)) in
-      omega (arith, ap (λ (ss : List Symbol). length (every (λ c. eqb c.output sort) ss i)) z, k.same T text ins h)
+counted T h sort = counted_every h sort

@@ -173,7 +173,7 @@ pub form_some : {text cells : List ℕ} {x : Sexp} → Formed text cells x → 0
 form_some {x = x} k = omega (arith, ap length k.encoded, some_cells x)
 
 module _ {text cells : List ℕ} {x : Sexp} (k : Formed text cells x) {r : Item} (e : r ≡ item_at cells 0) where
-  alone : Holds text cells (cons x nil)
+  pub alone : Holds text cells (cons x nil)
   unfolding encode
   alone = record { cells = k.encoded ∙ sym (append-nil (encode x)); spelt = (k.spelt, tt) }
 

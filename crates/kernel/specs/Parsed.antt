@@ -132,14 +132,17 @@ wiped t n =
     theory_lists (zero_from (2 * n.sorts) t.sorts) (zero_from (4 * n.symbols) t.symbols) (zero_from (ARGUMENTS * n.symbols) t.inputs)
     (zero_from (6 * n.rules) t.rules) (zero_from (3 * RULEVARS * n.rules) t.rule_vars) (zero_from n.words t.patterns)
 
--- the tables have their named lengths at least
-pub record Roomy (t : TheoryLists) : Type 0 where
-  pub sorts : 2 * SORTS ≤ length t.sorts
-  pub symbols : 4 * SYMBOLS ≤ length t.symbols
-  pub inputs : ARGUMENTS * SYMBOLS ≤ length t.inputs
-  pub rules : 6 * RULES ≤ length t.rules
-  pub rule_vars : 3 * RULEVARS * RULES ≤ length t.rule_vars
-  pub patterns : PATTERNS ≤ length t.patterns
+-- tables of these lengths have their named ones at least
+pub record TheoryFits (a b c d e f : ℕ) : Type 0 where
+  pub sorts : 2 * SORTS ≤ a
+  pub symbols : 4 * SYMBOLS ≤ b
+  pub inputs : ARGUMENTS * SYMBOLS ≤ c
+  pub rules : 6 * RULES ≤ d
+  pub rule_vars : 3 * RULEVARS * RULES ≤ e
+  pub patterns : PATTERNS ≤ f
+
+abbrev pub Roomy : TheoryLists → Type 0
+Roomy t = TheoryFits (length t.sorts) (length t.symbols) (length t.inputs) (length t.rules) (length t.rule_vars) (length t.patterns)
 
 -- just these
 pub record Exact (t : TheoryLists) : Type 0 where

@@ -1,12 +1,12 @@
 -- The words of a rule, as the tables of a well-formed theory hold them, are what matching and building ask for: the premises stand from the
 -- rule's first word on, the conclusion behind them. Assumes nothing.
-use Rattle.std.specs.Prelude.{◌≡◌, length, get_or, drop}
+use Rattle.std.specs.Prelude.{◌≡◌, length, drop}
 use Rattle.std.proofs.Math.Path.{refl, sym, ap}
-use Rattle.std.proofs.Common.{◌∙◌, subst, arith, length-drop, drop-drop, get_or-drop}
+use Rattle.std.proofs.Common.{◌∙◌, subst, arith, drop-drop}
 use Prim.Native.Nat.{ℕ, suc, ◌+◌, ◌<◌, ◌≤◌}
 use mathlib.Core.List.{List, [], ◌∷◌, ◌++◌, append_assoc}
 use Rattle.std.proofs.Math.Seq.{drop_at}
-use Rattle.rules.specs.Limits.{SYMBOLS, ARGUMENTS, RULEVARS}
+use Rattle.rules.specs.Limits.{ARGUMENTS, RULEVARS}
 use Rattle.rules.specs.Tree.{Tree, Trees, var, app, none, more, size, sizes, count_trees}
 use Rattle.rules.specs.Theory.{Theory, RuleVar, no_symbol, inputs, rule}
 use Rattle.rules.specs.TheoryTables.{prefix, prefixes, pattern_row, pattern_cells}
@@ -19,37 +19,7 @@ use Rattle.kernel.specs.RuleRows.{words_here}
 use Rattle.kernel.specs.Entries.{rule_formed, conclusion_ends}
 use Rattle.cells.specs.declared.Span.{Span}
 use Rattle.terms.specs.Patterns.{Stands, Standing, Fits, FitsAll, arity}
-
--- Words in prefix notation -----------------------------------------------------------------------------------------------------------
-
--- the word at a place, and what stands behind it
-word_at : (P : List ℕ) (at x : ℕ) (ys : List ℕ) → drop at P ≡ x ∷ ys → (at < length P) × (get_or P at 0 ≡ x) × (drop (at + 1) P ≡ ys)
-word_at P at x ys e =
-    let a = length-drop at P in
-    let b = ap length e in
-    let z : at + 0 ≡ at = omega arith in (
-      omega arith,
-      sym (ap (λ (k : ℕ). get_or P k 0) z) ∙ sym (get_or-drop at P 0 0) ∙ ap (λ (l : List ℕ). get_or l 0 0) e,
-      sym (drop-drop 1 at P) ∙ ap (drop 1) e,
-    )
-
-mutual
-  unfolding prefix size Stands Fits
-
-  pub prefix_stands : (S P : List ℕ) (at : ℕ) (p : Tree) (rest : List ℕ) → Fits S p → drop at P ≡ prefix p ++ rest → Stands S P at p
-  prefix_stands S P at (var v) rest f e = let a = word_at P at (SYMBOLS + v) rest e in (a.0, a.1, f)
-  prefix_stands S P at (app c ts) rest f e =
-      let a = word_at P at c (prefixes ts ++ rest) e in
-      (a.0, a.1, f.0, f.1, f.2, prefixes_stand S P (at + 1) ts rest f.3 a.2)
-
-  pub prefixes_stand : (S P : List ℕ) (at : ℕ) (ts : Trees) (rest : List ℕ) → FitsAll S ts → drop at P ≡ prefixes ts ++ rest → Standing S P at ts
-  prefixes_stand S P at none rest f e = tt
-  prefixes_stand S P at (more t ts) rest f e =
-      let d : drop at P ≡ prefix t ++ (prefixes ts ++ rest) = e ∙ append_assoc (prefix t) (prefixes ts) rest in (
-        prefix_stands S P at t (prefixes ts ++ rest) f.0 d,
-        prefixes_stand S P (at + size t) ts rest f.1
-            (sym (drop-drop (size t) at P) ∙ ap (drop (size t)) d ∙ drop_at (prefix t) (prefixes ts ++ rest) (size t) (prefix_length t)),
-      )
+use Rattle.terms.specs.Laws.Patterns.{prefix_stands, prefixes_stand}
 
 -- Patterns of a well-formed theory ---------------------------------------------------------------------------------------------------
 

@@ -46,7 +46,7 @@ module _ {text table : List ℕ} {count : ℕ} {ns : List Name} (h : SortsHeld t
 
 -- Symbols ------------------------------------------------------------------------------------------------------------------------
 
-symbol_row_four : (s : Symbol) → length (symbol_row s) ≡ 4
+pub symbol_row_four : (s : Symbol) → length (symbol_row s) ≡ 4
 unfolding symbol_row name_cells
 symbol_row_four s = refl
 

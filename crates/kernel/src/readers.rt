@@ -67,12 +67,7 @@ pub fn constructors(symbols: &[u32], count: usize, sort: usize) -> usize
     ensures { (T : Theory) (text inputs : List ℕ) → SymbolsHeld text symbols.now inputs count T.symbols →
         result ≡ length (constructors_of T sort) }
 {
-    let mut n = 0;
-    // a count beside a `for`: of `filter` and `count` it would have to be shown which items their run drains, which is more than this loop's invariant
-    for c in 0..count {
-        if output(symbols, c) == sort {
-            n += 1;
-        }
-    }
-    n
+    // a row is four cells, the output first
+    let (rows, _) = symbols[..4 * count].as_chunks::<4>();
+    rows.iter().filter(|row| row[0] as usize == sort).count()
 }

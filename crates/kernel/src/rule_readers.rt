@@ -34,7 +34,17 @@ fn span_at(table: &[u32], at: usize) -> Span
     }
 }
 
-impl Rules<'_> {
+impl<'a> Rules<'a> {
+    // The patterns, over the symbols' rows.
+    pub fn patterns(&self, symbols: &'a [u32]) -> Patterns<'a>
+        ensures { result ≡ record { symbols = symbols.entry; words = self.now.patterns } }
+    {
+        Patterns {
+            symbols,
+            words: self.patterns,
+        }
+    }
+
     // The rule with these bytes for a name; `count` is how many there are.
     pub fn rule_named(&self, text: &[u8], count: usize, name: &[u8]) -> Option<usize>
         requires { NamedRules text.now self.now.rows.now count }
@@ -104,11 +114,8 @@ impl Rules<'_> {
         ensures { (T : Theory) (count : ℕ) → FormedRules symbols.now self.now.rows.now self.now.patterns.now count T → r < count →
             result ≡ conclusion_at T r }
     {
-        let patterns = Patterns {
-            symbols,
-            words: self.patterns,
-        };
-        patterns.skip(self.words(r).from, self.premises(r))
+        self.patterns(symbols)
+            .skip(self.words(r).from, self.premises(r))
     }
 
     // Whether the conclusion of rule r is of that predicate.

@@ -1,12 +1,12 @@
 // A finished check, lent to be read: its texts, its answer and its tables, each as the rows that docs/TABLES.md has. A row that is not there, and a place
 // outside of a text, are read as none.
+use facts::Fact;
 use running::finish::{Refusal, Report};
+use running::texts::Texts;
 
 #[derive(Clone, Copy)]
 pub struct Checked<'a> {
-    pub theory: &'a [u8],
-    pub goals: &'a [u8],
-    pub proof: &'a [u8],
+    pub texts: Texts<'a>,
     pub answer: Result<Report, Refusal>,
     pub symbols: &'a [[u32; 4]],
     pub rules: &'a [[u32; 6]],
@@ -17,6 +17,5 @@ pub struct Checked<'a> {
     pub rows: &'a [[u32; 6]],
     pub lists: &'a [u32],
     pub missing: &'a [u32],
-    pub facts: &'a [[u32; 6]],
-    pub footings: &'a [[u64; 4]],
+    pub facts: &'a [Fact],
 }

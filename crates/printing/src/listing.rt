@@ -1,6 +1,7 @@
 // What is recorded, each on its line: facts `(fact INDEX JUDGMENT (HYPOTHESES...) ASSUMED (PREMISES...) (GENERALISED...))`, the rules that each rests on
 // `(footing INDEX RULE...)`, and 53's list, `(missing [N N ..])`.
 use crate::checked::Checked;
+use facts::Fact;
 use rules::{RULES, SYMBOLS};
 use std::alloc::Global;
 use std::io::Write;
@@ -51,17 +52,16 @@ impl Checked<'_> {
         &self,
         alloc: Global,
         k: usize,
-        fact: &[u32; 6],
+        fact: &Fact,
         out: &mut W,
     ) -> io::Result<()> {
-        let [judgment, assumed, first, hyps, premises, general] = *fact;
-        let entries = self.lists.get(first as usize..).unwrap_or(&[]);
-        let (hyps, entries) = cut(entries, hyps);
-        let (premises, entries) = cut(entries, premises);
-        let (general, _) = cut(entries, general);
+        let entries = self.lists.get(fact.first as usize..).unwrap_or(&[]);
+        let (hyps, entries) = cut(entries, fact.hyps);
+        let (premises, entries) = cut(entries, fact.premises);
+        let (general, _) = cut(entries, fact.general);
         write!(out, "(fact {k} ")?;
-        self.write_term(alloc, judgment, out)?;
-        write!(out, " ({}) {assumed} (", Numbers(hyps))?;
+        self.write_term(alloc, fact.judgment, out)?;
+        write!(out, " ({}) {} (", Numbers(hyps), fact.assumed)?;
         self.write_terms(alloc, premises, out)?;
         write!(out, ") (")?;
         self.write_variables(general, out)?;
@@ -90,8 +90,8 @@ impl Checked<'_> {
         for (k, fact) in self.facts.iter().take(many).enumerate() {
             self.write_fact(alloc, k, fact, out)?;
         }
-        for (k, words) in self.footings.iter().take(many).enumerate() {
-            self.write_footing(k, words, out)?;
+        for (k, fact) in self.facts.iter().take(many).enumerate() {
+            self.write_footing(k, &fact.footing, out)?;
         }
         self.write_missing(out)
     }

@@ -2,6 +2,7 @@
 ghost use Rattle.std.specs.Prelude.{◌≤◌, IfOk, vec_len};
 ghost use Rattle.printing.specs.Loaded.{AreShort};
 
+use running::texts::Texts;
 use std::alloc::AllocError;
 use std::env::{Env, FillError};
 use std::fmt::InlineText;
@@ -17,11 +18,22 @@ const MISSING: i32 = 22;
 
 const TOO_LONG: i32 = 36;
 
+// What the three files hold: they own it, and `Texts` only reads it.
 #[derive(Drop)]
-pub struct Texts {
+pub struct TextFiles {
     pub theory: Vec<u8>,
     pub goals: Vec<u8>,
     pub proof: Vec<u8>,
+}
+
+impl TextFiles {
+    pub fn texts(&self) -> Texts<'_> {
+        Texts {
+            theory: &self.theory,
+            goals: &self.goals,
+            proof: &self.proof,
+        }
+    }
 }
 
 #[derive(Drop)]
@@ -115,13 +127,13 @@ fn file_name<R: Env + AllocGlobal>(rt: &R, i: usize, own: &[u8]) -> Result<Vec<u
 }
 
 // The three files that the arguments name; without arguments those called theory, goals and proof.
-pub fn load_texts<R: Files + Env + AllocGlobal>(rt: &R) -> Result<Texts, LoadError>
+pub fn load_texts<R: Files + Env + AllocGlobal>(rt: &R) -> Result<TextFiles, LoadError>
     ensures { IfOk result AreShort }
 {
     if has_argument(rt, 1) && (!has_argument(rt, 3) || has_argument(rt, 4)) {
         return Err(LoadError::Usage);
     }
-    Ok(Texts {
+    Ok(TextFiles {
         theory: read_named(rt, file_name(rt, 1, b"theory")?)?,
         goals: read_named(rt, file_name(rt, 2, b"goals")?)?,
         proof: read_named(rt, file_name(rt, 3, b"proof")?)?,

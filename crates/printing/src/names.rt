@@ -36,7 +36,7 @@ fn part(text: &[u8], from: u32, to: u32) -> &str {
 impl<'a> Checked<'a> {
     pub(crate) fn rule_name(&self, rule: usize) -> &'a str {
         match self.rules.get(rule) {
-            Some(row) => part(self.theory, row[0], row[1]),
+            Some(row) => part(self.texts.theory, row[0], row[1]),
             None => "?",
         }
     }
@@ -45,7 +45,7 @@ impl<'a> Checked<'a> {
     pub(crate) fn head_name(&self, head: usize) -> Name<'a> {
         if head < SYMBOLS {
             return Name::Written(match self.symbols.get(head) {
-                Some(row) => part(self.theory, row[2], row[3]),
+                Some(row) => part(self.texts.theory, row[2], row[3]),
                 None => "?",
             });
         }
@@ -60,12 +60,12 @@ impl<'a> Checked<'a> {
     fn text(&self, number: u32) -> &'a [u8] {
         let number = number as usize;
         if number == Text::Goals.number() {
-            return self.goals;
+            return self.texts.goals;
         }
         if number == Text::Proof.number() {
-            return self.proof;
+            return self.texts.proof;
         }
-        self.theory
+        self.texts.theory
     }
 
     // 0 in a cell is none: docs/TABLES.md

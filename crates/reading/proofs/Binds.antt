@@ -16,8 +16,7 @@ use Rattle.rules.specs.Unify.{Binding, insert}
 use Rattle.rules.specs.State.{State}
 use Rattle.rules.specs.Reference.{binding, bindings}
 use Rattle.sexp.specs.Items.{item_at, behind}
-use Rattle.sexp.specs.ItemLaws.{More}
-use Rattle.sexp.specs.WalkLaws.{Walk, walk_start, walk_more, walk_over, walk_rest}
+use Rattle.sexp.specs.WalkLaws.{Walk, walk_start, walk_over}
 use Rattle.terms.specs.declared.store.Mark.{Mark}
 use Rattle.terms.specs.Table.{made, tree}
 use Rattle.terms.specs.Theta.{Theta, bindings as in_cells}
@@ -34,7 +33,7 @@ use Rattle.reading.specs.declared.bindings.Pair.{Pair}
 use Rattle.std.specs.Prelude.{Result, Ok, Err}
 use Rattle.questions.specs.Numbers.{number_of, detail_of}
 use Rattle.questions.specs.declared.Question.{Question}
-use Rattle.reading.specs.Laws.Walks.{walk_next, walk_on}
+use Rattle.reading.specs.Laws.Walks.{Here, here, walk_next}
 use Rattle.reading.proofs.Filling.{cleared}
 
 -- zs are left in the cells from a place on
@@ -93,26 +92,23 @@ module _ {K : Names} {n : Sizes} {I W : List ℕ} {old : Mark} {cells : List ℕ
   -- One binding ------------------------------------------------------------------------------------------------------------------------
 
   module _ (t : at < length cells) where
-    pub one : More l.zs
-    one = walk_more l.walk t
-
-    pub one_walk : Walk K.text cells at (cons one.first one.others)
-    one_walk = subst (λ (z : Sexps). Walk K.text cells at z) one.is l.walk
+    pub one : Here K.text cells at l.zs
+    one = here l.walk t
 
     abbrev pub left_given : ReadsItem K n J X now (take (length cells - at) (drop at cells))
-    left_given = record { S = S; x = one.first; ys = one.others; reads = l.reads; holds = walk_rest one_walk }
+    left_given = record { S = S; x = one.x; ys = one.ys; reads = l.reads; holds = one.holds }
 
-    on_one : On I W old (bindings S xs [] (made I W old)) J X now (bindings S (cons one.first one.others) (in_cells (made J X now) map 0) (made J X now))
+    on_one : On I W old (bindings S xs [] (made I W old)) J X now (bindings S (cons one.x one.ys) (in_cells (made J X now) map 0) (made J X now))
     on_one = on_is l.on (ap (λ (z : Sexps). bindings S z (in_cells (made J X now) map 0) (made J X now)) one.is)
 
     module _ (Y Z : List ℕ) (new : Mark) (r : Result Pair Question) (p : (h : ReadsItem K n J X now (take (length cells - at) (drop at cells))) → PairBy J X Y Z now new (binding h.S h.x (made J X now)) r) where
       pub left_refused : {q : Question} → r ≡ Err q → Stopped I W Y Z old (bindings S xs [] (made I W old)) (number_of q) (detail_of q) new
       unfolding bindings
-      left_refused e = on_no _ on_one (subst (λ z. PairBy J X Y Z now new (binding S one.first (made J X now)) z) e (p left_given))
+      left_refused e = on_no _ on_one (subst (λ z. PairBy J X Y Z now new (binding S one.x (made J X now)) z) e (p left_given))
 
       module _ {pair : Pair} (e : r ≡ Ok pair) where
-        pub left_pair : PairRead J X Y Z now (binding S one.first (made J X now)) pair.variable pair.term new
-        left_pair = subst (λ z. PairBy J X Y Z now new (binding S one.first (made J X now)) z) e (p left_given)
+        pub left_pair : PairRead J X Y Z now (binding S one.x (made J X now)) pair.variable pair.term new
+        left_pair = subst (λ z. PairBy J X Y Z now new (binding S one.x (made J X now)) z) e (p left_given)
 
         pub left_small : pair.variable < length map
         left_small = omega (arith, left_pair.small, l.theta.long)
@@ -134,25 +130,22 @@ module _ {K : Names} {n : Sizes} {I W : List ℕ} {old : Mark} {cells : List ℕ
               ap (insert (record { variable = pair.variable; value = tree Y Z new pair.term })) (sym (bindings_grown left_pair.went.grown l.theta))
               ∙ sym (bindings_set (made Y Z new) map pair.variable (pair.term + 1) pair.term left_small q (add-one pair.term))
 
-          on_more : On I W old (bindings S xs [] (made I W old)) Y Z new (bindings S one.others (in_cells (made Y Z new) (set map pair.variable (pair.term + 1)) 0) (made Y Z new))
+          on_more : On I W old (bindings S xs [] (made I W old)) Y Z new (bindings S one.ys (in_cells (made Y Z new) (set map pair.variable (pair.term + 1)) 0) (made Y Z new))
           unfolding bindings
           on_more =
               on_is
               (on_ask_yes _ 36 (on_ok _ on_one left_pair.went) (ap not (bindings_bound (made J X now) map pair.variable ∙ ap not (eq-eqb (get_or map pair.variable 0) 0 q))))
-              (ap (λ (bs : List Binding). bindings S one.others bs (made Y Z new)) one_more_lem)
+              (ap (λ (bs : List Binding). bindings S one.ys bs (made Y Z new)) one_more_lem)
 
           pub left_again : {next : ℕ} → next ≡ behind at (item_at cells at) → Left K n I W old cells S xs Y Z new (set map pair.variable (pair.term + 1)) next
           left_again f =
               record {
-                zs = one.others;
-                walk = walk_next one_walk f;
-                reads = reads_binding l.reads one.first left_pair.went;
+                zs = one.ys;
+                walk = walk_next one.walk f;
+                reads = reads_binding l.reads one.x left_pair.went;
                 on = on_more;
                 theta = theta_set pair.variable pair.term (theta_grown left_pair.went.grown l.theta) left_pair.small left_pair.there;
               }
-
-    pub left_less : {next : ℕ} → next ≡ behind at (item_at cells at) → (at < next) × (next ≤ length cells)
-    left_less f = (walk_on one_walk f, (walk_next one_walk f).here.high)
 
 -- All of them are read, or one is refused: then the map, which was zero before, is cleared
 module _ {K : Names} {n : Sizes} {I W : List ℕ} {m : Mark} {cells : List ℕ} (J X map : List ℕ) (new : Mark) (r : Result (Unit {0}) Question)

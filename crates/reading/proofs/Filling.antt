@@ -4,7 +4,7 @@ use mathlib.Core.List.{List, [], ◌∷◌, ◌++◌}
 use Prim.Native.Nat.{ℕ, ◌+◌, ◌-◌, ◌≤◌}
 use native.Mathlib.Omega.{arith}
 use native.Mathlib.Decide.{dec_lt}
-use lib.ListN.{length, set, replicate, length-append, length-replicate}
+use lib.ListN.{length, set, replicate, length-append}
 use lib.Seq.{set_out, take-append-le}
 use Rattle.rules.specs.TheoryTables.{filled}
 use Rattle.rules.specs.Laws.Row.{length_filled}
@@ -34,12 +34,6 @@ put_more {k = k} N xs v o e = ap (λ (l : List ℕ). set l k v) o ∙ filled_put
 -- Cells that were zero ---------------------------------------------------------------------------------------------------------------------
 
 module _ {before : List ℕ} (now : List ℕ) {n : ℕ} (b : before ≡ replicate n 0) (l : length now ≡ n) where
-  pub as_long : length now ≡ length before
-  as_long = l ∙ sym (ap length b ∙ length-replicate n 0)
-
   -- cleared, they are as they were
   pub cleared : {last : List ℕ} → last ≡ replicate (length now) 0 → last ≡ before
   cleared e = e ∙ ap (λ (m : ℕ). replicate m 0) l ∙ sym b
-
-pub zeros_long : {before : List ℕ} (n : ℕ) → before ≡ replicate n 0 → length before ≡ n
-zeros_long n b = ap length b ∙ length-replicate n 0

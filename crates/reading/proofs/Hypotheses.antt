@@ -3,7 +3,7 @@ use mathlib.Core.Path.{◌≡◌, refl, sym, ap, ◌∙◌, subst}
 use mathlib.Core.Bool.{Bool, true, false, not, true≢false, false≢true}
 use Rattle.std.specs.Prelude.{Option, Some as some, None as nothing, Result, Ok, Err}
 use mathlib.Core.List.{List, [], ◌∷◌, ◌++◌, append-nil, append_assoc}
-use Prim.Native.Nat.{ℕ, zero, suc, ◌-◌, ◌*◌, ◌<◌, ◌≤◌}
+use Prim.Native.Nat.{ℕ, ◌-◌, ◌*◌, ◌<◌, ◌≤◌}
 use native.Mathlib.Omega.{arith}
 use lib.Dec.{eqb}
 use lib.ListN.{length, take, drop, replicate, length-replicate}
@@ -23,7 +23,6 @@ use Rattle.rules.specs.Laws.Rising.{has_all}
 use Rattle.rules.specs.Laws.Members.{has_rising_all}
 use Rattle.sexp.specs.Items.{Holds, item_at, behind}
 use Rattle.sexp.specs.WalkLaws.{Walk, walk_start, walk_over, ListIs}
-use Rattle.sexp.specs.FoundLaws.{found_at, found_missing}
 use Rattle.terms.specs.Sets.{holds, plus}
 use Rattle.terms.specs.Laws.Sets.{holds_zero}
 use Rattle.state.specs.declared.sizes.Sizes.{Sizes}
@@ -37,15 +36,10 @@ use Rattle.reading.specs.Answers.{HypsRead, HypsAs}
 use Rattle.questions.specs.declared.Question.{Question}
 use Rattle.reading.proofs.Filling.{cleared}
 use Rattle.reading.specs.Laws.Walks.{Here, here, go_on, then_same}
-use Rattle.reading.specs.Laws.Lists.{has_snoc}
+use Rattle.reading.specs.Earlier.{Missing}
+use Rattle.reading.specs.Laws.Lists.{has_snoc, no_entry}
 
 -- One item -----------------------------------------------------------------------------------------------------------------------------
-
-entry_late : {A : Type 0} (xs : List A) (i : ℕ) → length xs ≤ i → entry xs i ≡ nothing
-unfolding entry
-entry_late [] i l = refl
-entry_late (x ∷ xs) zero l = absurd (omega (arith, l))
-entry_late (x ∷ xs) (suc i) l = entry_late xs i (omega (arith, l))
 
 module _ (p : Fact → Bool) (S : State) (x : Sexp) (ys : Sexps) (M : Made) where
   each_none : index_in x ≡ nothing → hyp_each p S (cons x ys) M ≡ refuse 34 0 M
@@ -118,16 +112,16 @@ pub record Walking (text cells : List ℕ) (at : ℕ) : Type 0 where
   pub walk : Walk text cells at left
 
 module _ {text cells : List ℕ} {at : ℕ} (w : Walking text cells at) (l : at < length cells) where
-  -- what `index` asks
+  -- what `earlier` asks
   pub walking_first : FirstItem text (take (length cells - at) (drop at cells))
   walking_first = let k = here w.walk l in record { x = k.x; ys = k.ys; holds = k.holds }
 
   pub walking_on : {next : ℕ} → next ≡ behind at (item_at cells at) → Walking text cells next
   walking_on n = let k = here w.walk l in record { left = k.ys; walk = (go_on k n).walk }
 
--- what `index` answers of the item at a place
-abbrev pub Spelled : List ℕ → List ℕ → ℕ → Option ℕ → Type 0
-Spelled text cells at r = (x : Sexp) (ys : Sexps) → Holds text (take (length cells - at) (drop at cells)) (cons x ys) → r ≡ (index_in x)
+-- what `earlier` says of the item at a place, and of what it numbers
+abbrev pub Spelled : (Option ℕ → Type 0) → List ℕ → List ℕ → ℕ → Type 0
+Spelled P text cells at = (x : Sexp) (ys : Sexps) → Holds text (take (length cells - at) (drop at cells)) (cons x ys) → P (index_in x)
 
 module _ {p : Fact → Bool} {S : State} {xs : Sexps} {text cells set : List ℕ} {at : ℕ} (h : Hyping p S xs text cells set at) where
   -- nothing is left
@@ -152,40 +146,38 @@ module _ {p : Fact → Bool} {S : State} {xs : Sexps} {text cells set : List ℕ
         list_refuses p S xs M q
         (h.whole M ∙ then_refuse (hyp_each p S h.left M) q 0 M _ (ap (λ (z : Sexps). hyp_each p S z M) hyping_here.is ∙ e M))
 
-    module _ {r : Option ℕ} (w : Spelled text cells at r) where
-      pub hyping_none : r ≡ nothing → (M : Made) → hyp_list p S (list xs) M ≡ refuse 34 0 M
-      hyping_none e =
-          let k = hyping_here in
-          stops 34 (λ M. each_none p S k.x k.ys M (found_missing (index_in k.x) r (w k.x k.ys k.holds) e))
+    pub hyping_missing : (n : Sizes) → n.facts ≡ length S.facts → Spelled (Missing n) text cells at → (M : Made) → hyp_list p S (list xs) M ≡ refuse 34 0 M
+    hyping_missing n f w = let k = hyping_here in go (index_in k.x) refl (w k.x k.ys k.holds)
+      where
+        go : (o : Option ℕ) → index_in hyping_here.x ≡ o → Missing n o → (M : Made) → hyp_list p S (list xs) M ≡ refuse 34 0 M
+        go nothing e m = let k = hyping_here in stops 34 (λ M. each_none p S k.x k.ys M e)
+        go (some i) e m = let k = hyping_here in stops 34 (λ M. each_late p S k.x k.ys M i e (no_entry S.facts i (omega (arith, m, f))))
 
-      module _ {i : ℕ} (e : r ≡ some i) where
-        is_index : index_in hyping_here.x ≡ some i
-        is_index = let k = hyping_here in found_at (index_in k.x) r i (w k.x k.ys k.holds) e
+    module _ {i : ℕ} (w : Spelled (λ o. o ≡ some i) text cells at) where
+      is_index : index_in hyping_here.x ≡ some i
+      is_index = let k = hyping_here in w k.x k.ys k.holds
 
-        pub hyping_late : length S.facts ≤ i → (M : Made) → hyp_list p S (list xs) M ≡ refuse 34 0 M
-        hyping_late m = let k = hyping_here in stops 34 (λ M. each_late p S k.x k.ys M i is_index (entry_late S.facts i m))
+      module _ {f : Fact} (k : entry S.facts i ≡ some f) where
+        pub hyping_fails : p f ≡ false → (M : Made) → hyp_list p S (list xs) M ≡ refuse 40 0 M
+        hyping_fails t = let y = hyping_here in stops 40 (λ M. each_fails p S y.x y.ys M i is_index f k t)
 
-        module _ {f : Fact} (k : entry S.facts i ≡ some f) where
-          pub hyping_fails : p f ≡ false → (M : Made) → hyp_list p S (list xs) M ≡ refuse 40 0 M
-          hyping_fails t = let y = hyping_here in stops 40 (λ M. each_fails p S y.x y.ys M i is_index f k t)
-
-          pub hyping_more : {set' : List ℕ} {next : ℕ} → p f ≡ true → holds set' ≡ plus i (holds set) → next ≡ behind at (item_at cells at) →
-              Hyping p S xs text cells set' next
-          unfolding then
-          hyping_more t u n =
-              let y = hyping_here in
-              let b = h.before in
-              record {
-                left = y.ys;
-                before = b ++ (i ∷ []);
-                walk = (go_on y n).walk;
-                whole = λ M. h.whole M ∙ ap (λ (z : Sexps). then (hyp_each p S z M) (λ is U. ok (b ++ is) U)) y.is
-                    ∙ ap (λ (o : Out Made (List ℕ)). then o (λ is U. ok (b ++ is) U)) (each_more p S y.x y.ys M i is_index f k t)
-                    ∙ then_then (hyp_each p S y.ys M) (λ is U. ok (i ∷ is) U) (λ is U. ok (b ++ is) U)
-                    ∙ ap (λ (g : List ℕ → Made → Out Made (List ℕ)). then (hyp_each p S y.ys M) g) (λ j is U. ok (sym (append_assoc b (i ∷ []) is) j) U);
-                set_is = u ∙ ap (plus i) h.set_is ∙ sym (has_snoc b i);
-                below = all_snoc h.below (entry_below S.facts i f k);
-              }
+        pub hyping_more : {set' : List ℕ} {next : ℕ} → p f ≡ true → holds set' ≡ plus i (holds set) → next ≡ behind at (item_at cells at) →
+            Hyping p S xs text cells set' next
+        unfolding then
+        hyping_more t u n =
+            let y = hyping_here in
+            let b = h.before in
+            record {
+              left = y.ys;
+              before = b ++ (i ∷ []);
+              walk = (go_on y n).walk;
+              whole = λ M. h.whole M ∙ ap (λ (z : Sexps). then (hyp_each p S z M) (λ is U. ok (b ++ is) U)) y.is
+                  ∙ ap (λ (o : Out Made (List ℕ)). then o (λ is U. ok (b ++ is) U)) (each_more p S y.x y.ys M i is_index f k t)
+                  ∙ then_then (hyp_each p S y.ys M) (λ is U. ok (i ∷ is) U) (λ is U. ok (b ++ is) U)
+                  ∙ ap (λ (g : List ℕ → Made → Out Made (List ℕ)). then (hyp_each p S y.ys M) g) (λ j is U. ok (sym (append_assoc b (i ∷ []) is) j) U);
+              set_is = u ∙ ap (plus i) h.set_is ∙ sym (has_snoc b i);
+              below = all_snoc h.below (entry_below S.facts i f k);
+            }
 
 -- What the tables say --------------------------------------------------------------------------------------------------------------------
 

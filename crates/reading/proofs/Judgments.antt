@@ -8,7 +8,7 @@ use lib.ListN.{length, take, drop, get_or, set, replicate, length-set}
 use Rattle.rules.specs.Limits.{TERMS}
 use Rattle.rules.specs.Out.{Out, ok, refuse, then}
 use Rattle.rules.specs.Sexp.{Sexp, Sexps, atom, list, items}
-use Rattle.rules.specs.Tree.{Trees, var, none, more}
+use Rattle.rules.specs.Tree.{Trees, more}
 use Rattle.rules.specs.Store.{Made}
 use Rattle.rules.specs.State.{State}
 use Rattle.rules.specs.Read.{judgment, judgment_each, judgments}
@@ -30,6 +30,7 @@ use Rattle.std.specs.Prelude.{Result, Ok, Err}
 use Rattle.questions.specs.Numbers.{number_of, detail_of}
 use Rattle.questions.specs.declared.Question.{Question}
 use Rattle.std.specs.Result.{is_err}
+use Rattle.terms.specs.Laws.Below.{ahead, ahead_none, ahead_snoc}
 use Rattle.reading.specs.Given.{Reads, ReadsItem, ReadsItems}
 use Rattle.reading.specs.Answers.{TermRead, ReadBy, JudgmentsRead, JudgmentsBy}
 use Rattle.reading.specs.Laws.Reading.{reads_judgment, reads_item}
@@ -42,20 +43,6 @@ unfolding judgments items then
 atom_stops S x k bs e M = ap (λ (z : Sexp). judgments S z M) e
 
 -- Trees by their numbers, ahead of others --------------------------------------------------------------------------------------------------
-
-unfoldable pub ahead : Made → List ℕ → Trees → Trees
-ahead M [] ts = ts
-ahead M (n ∷ ns) ts = more (get_or M n (var 0)) (ahead M ns ts)
-
-ahead_none : (M : Made) (ns : List ℕ) → ahead M ns none ≡ args_of M ns
-unfolding ahead args_of
-ahead_none M [] = refl
-ahead_none M (n ∷ ns) = ap (more (get_or M n (var 0))) (ahead_none M ns)
-
-ahead_snoc : (M : Made) (ns : List ℕ) (t : ℕ) (ts : Trees) → ahead M (ns ++ (t ∷ [])) ts ≡ ahead M ns (more (get_or M t (var 0)) ts)
-unfolding ahead
-ahead_snoc M [] t ts = refl
-ahead_snoc M (n ∷ ns) t ts = ap (more (get_or M n (var 0))) (ahead_snoc M ns t ts)
 
 ahead_grown : {I W J X : List ℕ} {old new : Mark} → Grown I W J X old new → {ns : List ℕ} → All (λ n. n < old.terms) ns → (ts : Trees) →
     ahead (made J X new) ns ts ≡ ahead (made I W old) ns ts
@@ -99,12 +86,6 @@ judging_start {I = I} {W} {m} {S} {xs} {out = out} r h e =
 
 module _ {K : Names} {n : Sizes} {I W : List ℕ} {old : Mark} {S : State} {xs : Sexps} {cells J X out : List ℕ} {now : Mark} {k at : ℕ}
     (h : Judging K n I W old S xs cells J X out now k at) where
-  pub judging_index : length J ≡ length I
-  judging_index = h.on.grown.same.long_index
-
-  pub judging_words : length X ≡ length W
-  judging_words = h.on.grown.same.long_words
-
   -- nothing is left
   pub judging_over : length cells ≤ at → JudgmentsRead I W J X old (judgments S (list xs) (made I W old)) out k now
   unfolding judgment_each then

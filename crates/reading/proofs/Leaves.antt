@@ -6,7 +6,6 @@ use Rattle.std.specs.Prelude.{Option, Some as some, None as nothing, Result}
 use mathlib.Core.List.{List, [], ◌∷◌, ◌++◌}
 use Prim.Native.Nat.{ℕ, ◌-◌, ◌*◌, ◌<◌, ◌≤◌}
 use native.Mathlib.Omega.{arith}
-use native.Mathlib.Nat.{not-suc-le-zero}
 use native.Mathlib.Decide.{dec_lt, dec_le}
 use lib.ListN.{length, get_or, take, replicate, get_or-eq_default}
 use lib.Seq.{get_or-take}
@@ -17,17 +16,19 @@ use Rattle.rules.specs.Store.{Made, keep}
 use Rattle.rules.specs.Theory.{Theory, Symbol, no_symbol, inputs, output, constructor_named}
 use Rattle.rules.specs.State.{State, Def, no_var, sort_of, sort_of_var, var_named, abbreviated, is_empty}
 use Rattle.rules.specs.Read.{named}
-use Rattle.rules.specs.TheoryTables.{filled, rows, name_cells, symbol_row, symbol_table}
+use Rattle.rules.specs.TheoryTables.{filled, rows, symbol_row, symbol_table}
 use Rattle.rules.specs.Laws.Row.{length_filled, length_rows, row_cell, append-nil}
 use Rattle.rules.specs.Laws.Store.{then_ok, then_refuse}
 use Rattle.sexp.specs.FoundLaws.{found_at, found_missing, found_entry}
 use Rattle.kernel.specs.Held.{SymbolsHeld}
 use Rattle.kernel.specs.Readers.{KnownSymbol}
-use Rattle.kernel.specs.SignatureRows.{symbols_few}
+use Rattle.kernel.specs.SignatureRows.{symbols_few, symbol_row_four}
 use Rattle.terms.specs.declared.store.Mark.{Mark}
-use Rattle.terms.specs.Table.{start, made, tree, tree_at, args_of, Good, Node, is_app, Stored}
+use Rattle.terms.specs.Table.{start, made, tree, tree_at, args_of, Good, Node, Stored}
 use Rattle.terms.specs.Node.{HeadIs}
 use Rattle.terms.specs.On.{Stopped, pure_went, pure_stopped}
+use Rattle.terms.specs.Laws.Variable.{leaf_node}
+use Rattle.reading.specs.Laws.Lists.{empty_is, empty_not}
 use Rattle.terms.specs.Laws.Tables.{tree_app}
 use Rattle.terms.specs.Laws.Terms.{head_tree, term_app, term_var, variable_small}
 use Rattle.terms.specs.Laws.Numbers.{stored_is}
@@ -53,18 +54,14 @@ filled_cell n xs i l = elim (dec_le (length xs) n) [
       ap (λ k. get_or (take n xs ++ replicate k 0) i 0) z ∙ ap (λ l. get_or l i 0) (append-nil (take n xs)) ∙ get_or-take n xs i 0 l
 ]
 
-symbol_width : (s : Symbol) → length (symbol_row s) ≡ 4
-unfolding symbol_row name_cells
-symbol_width s = refl
-
 symbol_output : (ss : List Symbol) (c : ℕ) → get_or (rows symbol_row ss) (4 * c) 0 ≡ (get_or ss c no_symbol).output
 unfolding symbol_row
 symbol_output ss c = elim (dec_lt c (length ss)) [
   | yes p ↦
       ap (λ l. get_or l (4 * c) 0) (sym (append-nil (rows symbol_row ss)))
-      ∙ row_cell symbol_row 4 symbol_width ss [] c 0 (4 * c) no_symbol p (omega arith) (omega arith)
+      ∙ row_cell symbol_row 4 symbol_row_four ss [] c 0 (4 * c) no_symbol p (omega arith) (omega arith)
   | no q ↦
-      get_or-eq_default (rows symbol_row ss) 0 {n = 4 * c} (omega (arith, length_rows symbol_row 4 symbol_width ss))
+      get_or-eq_default (rows symbol_row ss) 0 {n = 4 * c} (omega (arith, length_rows symbol_row 4 symbol_row_four ss))
       ∙ sym (ap (λ (s : Symbol). s.output) (get_or-eq_default ss no_symbol {n = c} (omega arith)))
 ]
 
@@ -194,20 +191,7 @@ module _ (S : State) (n : List ℕ) (M : Made) where
           named_asks ∙ then_ok (ask 23 (is_empty (inputs S.theory c)) M) tt M _ (ap (λ (b : Bool). ask 23 b M) q)
           ∙ ap (λ t. keep t M) (sym (tree_app M c [] l))
 
-empty_none : (xs : List ℕ) → length xs ≡ 0 → is_empty xs ≡ true
-unfolding is_empty
-empty_none [] e = refl
-empty_none (x ∷ xs) e = absurd (omega arith)
-
-empty_some : (xs : List ℕ) → (length xs ≡ 0 → ⊥) → is_empty xs ≡ false
-unfolding is_empty
-empty_some [] e = absurd (e refl)
-empty_some (x ∷ xs) e = refl
-
 -- a node without arguments
-pub app_node : (n c : ℕ) → c < SYMBOLS → Node n (c ∷ [])
-app_node n c l = record { narrow = omega arith; shaped = is_app {h = c} {xs = []} l (λ k m. absurd (not-suc-le-zero m)) }
-
 module _ {theory goals text symbols vars : List ℕ} {n : Sizes} {I W : List ℕ} {m : Mark} (g : ReadsNames theory goals text symbols vars n I W m)
     (name : List ℕ) where
   -- The variable of that name
@@ -250,7 +234,7 @@ module _ {theory goals text symbols vars : List ℕ} {n : Sizes} {I W : List ℕ
         constant_known = record { text = theory; inputs = g.inputs; count = n.symbols; held = (g.S.theory.symbols, g.held); known = constant_there }
 
         pub constant_kept : Good I W m × Node m.terms (c ∷ [])
-        constant_kept = (g.good, app_node m.terms c constant_small)
+        constant_kept = (g.good, leaf_node m.terms c constant_small)
 
         module _ {s : ℕ} (p : (T : Theory) (text ins : List ℕ) (count : ℕ) → SymbolsHeld text symbols ins count T.symbols → c < count → s ≡ output T c)
           where
@@ -268,11 +252,11 @@ module _ {theory goals text symbols vars : List ℕ} {n : Sizes} {I W : List ℕ
           pub name_many : (s ≡ 0 → ⊥) → Stopped I W I W m (named g.S name (made I W m)) 23 0 m
           name_many q =
               pure_stopped g.good
-              (named_many g.S name (made I W m) no_var_lem c (found_at _ k c b f) (empty_some (inputs g.S.theory c) (λ z. q (arity_is ∙ z))))
+              (named_many g.S name (made I W m) no_var_lem c (found_at _ k c b f) (empty_not (inputs g.S.theory c) (λ z. q (arity_is ∙ z))))
 
           pub constant_typed : s ≡ 0 → (J X : List ℕ) (new : Mark) (q : Result Typed Question) →
               TypedBy I W J X m new g.S (keep (tree_at (made I W m) (c ∷ [])) (made I W m)) q →
               TypedBy I W J X m new g.S (named g.S name (made I W m)) q
           constant_typed z J X new q t =
               subst (λ (K : Out Made Tree). TypedBy I W J X m new g.S K q)
-              (sym (named_app g.S name (made I W m) no_var_lem c (found_at _ k c b f) (empty_none (inputs g.S.theory c) (sym arity_is ∙ z)) constant_small)) t
+              (sym (named_app g.S name (made I W m) no_var_lem c (found_at _ k c b f) (empty_is (inputs g.S.theory c) (sym arity_is ∙ z)) constant_small)) t

@@ -8,20 +8,17 @@ use lib.ListN.{length, take, drop, length-take, length-drop}
 use borrow.Author.Tests.{ne_eqb}
 use Rattle.rules.specs.Limits.{VARIABLES}
 use Rattle.rules.specs.Out.{Out, ok, then, found}
-use Rattle.rules.specs.Text.{same}
-use Rattle.rules.specs.Sexp.{Sexp, Sexps, atom, list, nil, cons, count, item, items}
+use Rattle.rules.specs.Sexp.{Sexp, Sexps, list, nil, cons, count, item, items}
 use Rattle.rules.specs.Store.{Made}
 use Rattle.rules.specs.Unify.{Binding}
-use Rattle.rules.specs.State.{State, Var, no_var, var_named, sort_of_var}
+use Rattle.rules.specs.State.{State, Var, sort_of_var}
 use Rattle.rules.specs.Read.{term_of}
 use Rattle.rules.specs.Reference.{binding}
-use Rattle.rules.specs.Laws.Find.{first_some}
 use Rattle.sexp.specs.Encode.{encodes}
 use Rattle.sexp.specs.Items.{Holds, item_at, behind}
 use Rattle.sexp.specs.ItemLaws.{at_inside}
 use Rattle.sexp.specs.WalkLaws.{Walk, ListIs, walk_start, walk_atom, walk_list, walk_rest}
 use Rattle.sexp.specs.FoundLaws.{found_at, found_missing}
-use Rattle.sexp.specs.Never.{never}
 use Rattle.sexp.specs.declared.items.Item.{Item}
 use Rattle.sexp.specs.declared.items.Item.TheVariants.{Atom, List as Part}
 use Rattle.terms.specs.declared.store.Mark.{Mark}
@@ -31,6 +28,7 @@ use Rattle.state.specs.declared.sizes.Sizes.{Sizes}
 use Rattle.state.specs.Held.{Names, VarsHeld}
 use Rattle.state.specs.Rows.{SomeVars, cell}
 use Rattle.state.specs.VarLaws.{vars_long, var_sort_is}
+use Rattle.reading.specs.Laws.Lists.{variable_below}
 use Rattle.reading.specs.Items.{FirstItem, variable_in, variable_found}
 use Rattle.reading.specs.Given.{ReadsItem}
 use Rattle.reading.specs.Answers.{ReadBy, TermRead, PairRead}
@@ -57,13 +55,6 @@ two_items {text} {cells} {x} {a} {b} l e = go l.items e l.is l.holds
     go (cons y nil) e i h = absurd (omega arith)
     go (cons y (cons z nil)) e i h = record { first = y; second = z; is = i; holds = h }
     go (cons y (cons z (cons w ws))) e i h = absurd (omega arith)
-
--- A variable that is found is one of them --------------------------------------------------------------------------------------------
-
-variable_inside : (vs : List Var) (x : Sexp) (v : ℕ) → variable_in vs x ≡ some v → v < length vs
-unfolding variable_in var_named
-variable_inside vs (atom p bs) v e = let f = first_some (λ (w : Var). same w.name.bytes bs) vs 0 v no_var e in omega (arith, f.is, f.inside)
-variable_inside vs (list xs) v e = never cc
 
 -- The definition ---------------------------------------------------------------------------------------------------------------------
 
@@ -127,7 +118,7 @@ module _ {K : Names} {n : Sizes} {I W : List ℕ} {m : Mark} {cells : List ℕ} 
 
         pub variable_small : v < VARIABLES
         variable_small =
-            omega (arith, variable_inside g.S.vars p.first v is_found, g.reads.spelling.vars.stand.many, g.reads.spelling.vars.stand.few)
+            omega (arith, variable_below g.S.vars p.first v is_found, g.reads.spelling.vars.stand.many, g.reads.spelling.vars.stand.few)
 
         pub sort_given : (length K.vars ≡ 4 * VARIABLES) × (v < VARIABLES)
         sort_given = (vars_long g.reads.spelling.vars.stand, variable_small)

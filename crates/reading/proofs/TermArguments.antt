@@ -6,6 +6,7 @@ use Prim.Native.Nat.{ℕ, ◌+◌, ◌-◌, ◌≤◌, ◌<◌}
 use native.Mathlib.Omega.{arith}
 use native.Mathlib.Numerals.{add-one}
 use native.Mathlib.Decide.{ℕ_discrete}
+use Rattle.std.proofs.lemmas.Bool.{false_from_ne_true}
 use lib.Dec.{eqb, ltb}
 use lib.ListN.{length, get_or, take, drop, set, length-append, length-set, length-drop}
 use lib.Seq.{take-suc, take-suc-set, take_all, length-take-le}
@@ -31,14 +32,15 @@ use Rattle.terms.specs.Table.{made, tree, tree_at, args_of, Node, is_app}
 use Rattle.terms.specs.On.{Stopped, On, on_start, on_is, on_ok, on_no, on_done}
 use Rattle.terms.specs.Laws.Tables.{tree_app, args_count}
 use Rattle.terms.specs.Laws.Growth.{grown_args}
-use Rattle.terms.specs.Laws.Patterns.{before}
+use Rattle.terms.specs.Laws.Below.{below_snoc, below_grown}
+use Rattle.terms.specs.Laws.Patterns.{before, before_none}
 use Rattle.state.specs.declared.sizes.Sizes.{Sizes}
 use Rattle.state.specs.Held.{Names}
 use Rattle.reading.specs.Given.{Reads, ReadsItem}
 use Rattle.reading.specs.Answers.{TypedRead, ArgumentsRead, fitting}
 use Rattle.reading.specs.Laws.Reading.{reads_term}
 use Rattle.reading.specs.Laws.Walks.{walk_next, walk_on, then_same}
-use Rattle.reading.proofs.TermTrees.{below_snoc, more_below, before_none, before_args, fit_snoc, fit_count}
+use Rattle.reading.proofs.TermTrees.{before_args, fit_snoc, fit_count}
 
 -- A symbol that is there -----------------------------------------------------------------------------------------------------------
 
@@ -94,10 +96,6 @@ going_begins {I = I} {W} {m} {S = S} {xs} r h c count node start l e d q =
       few = omega arith;
     }
 
-unlike : (b : Bool) → (b ≡ true → ⊥) → b ≡ false
-unlike true n = absurd (n refl)
-unlike false n = refl
-
 put_long : (node after : List ℕ) (k t : ℕ) (b : Bool) → after ≡ elim b [ true ↦ set node (k + 1) t | false ↦ node ] → length after ≡ length node
 put_long node after k t true e = ap length e ∙ length-set node (k + 1) t
 put_long node after k t false e = ap length e
@@ -120,9 +118,6 @@ module _ {K : Names} {n : Sizes} {I W : List ℕ} {old : Mark} {cells : List ℕ
 
     abbrev pub going_item : ReadsItem K n J X m (take (length cells - at) (drop at cells))
     going_item = record { S = S; x = more_left.first; ys = more_left.others; reads = g.reads; holds = walk_rest first_walk }
-
-    pub going_past : {next : ℕ} → next ≡ behind at (item_at cells at) → at < next
-    going_past e = walk_on first_walk e
 
     -- the first of the items is read next
     first_on : On I W old (terms S xs (made I W old)) J X m (then (term S more_left.first (made J X m))
@@ -204,7 +199,7 @@ module _ {K : Names} {n : Sizes} {I W : List ℕ} {old : Mark} {cells : List ℕ
               reads = reads_term g.reads more_left.first read_so.read.went;
               on = next_on;
               many = length-append g.ids (t ∷ []) ∙ ap (λ (j : ℕ). j + 1) g.many;
-              there = below_snoc new.terms g.ids t (more_below m.terms new.terms g.ids read_so.read.went.grown.more g.there) read_so.read.there;
+              there = below_snoc g.ids (below_grown g.ids read_so.read.went.grown.more g.there) read_so.read.there;
               long = put_long node after k t (ltb k ARGUMENTS) d ∙ g.long;
               puts = next_puts after d;
               sorts = next_sorts s b;
@@ -242,7 +237,7 @@ module _ {K : Names} {n : Sizes} {I W : List ℕ} {old : Mark} {cells : List ℕ
     -- they do not fit, or are not as many
     misfit : (fits ≡ true → k ≡ count → ⊥) → fit S.theory S.vars (args_of (made J X m) g.ids) (inputs S.theory c) ≡ false
     misfit w = elim (ℕ_discrete k count) [
-      | yes e ↦ sym (all_fit e) ∙ unlike fits (λ z. w z e)
+      | yes e ↦ sym (all_fit e) ∙ false_from_ne_true fits (λ z. w z e)
       | no z ↦ fit_count S.theory S.vars (args_of (made J X m) g.ids) (inputs S.theory c) (λ e. z (sym all_many ∙ e ∙ sym g.counted))
     ]
 

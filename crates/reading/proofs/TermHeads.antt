@@ -17,6 +17,7 @@ use Rattle.rules.specs.Theory.{Theory, no_symbol, constructor_named, predicate_n
 use Rattle.rules.specs.Laws.Find.{first_some}
 use Rattle.rules.specs.State.{State}
 use Rattle.rules.specs.Read.{term, compound, terms, judgment}
+use Rattle.rules.specs.Laws.Sexp.{rest_none}
 use Rattle.sexp.specs.Each.{NameFirst, name_first}
 use Rattle.sexp.specs.FirstItem.{none_left, first_item, first_count}
 use Rattle.kernel.specs.Held.{SymbolsHeld}
@@ -62,11 +63,6 @@ module _ (S : State) (M : Made) (zs : Sexps) where
 
 -- Judgments ------------------------------------------------------------------------------------------------------------------------
 
-rest_all : (ys : Sexps) → rest ys 0 ≡ ys
-unfolding rest
-rest_all nil = refl
-rest_all (cons y ys) = refl
-
 module _ (S : State) (M : Made) (zs : Sexps) where
   judgment_items : judgment S (list zs) M ≡ then (name 22 (item zs 0) M) (λ n s. then (found 22 (predicate_named S.theory n.bytes) s)
       (λ p u. then (terms S (rest zs 1) u) (finish S p)))
@@ -90,7 +86,7 @@ module _ (S : State) (M : Made) (zs : Sexps) where
         judgment_items
         ∙ ap (λ z. then (name 22 (item z 0) M) (λ n s. then (found 22 (predicate_named S.theory n.bytes) s)
         (λ c u. then (terms S (rest z 1) u) (finish S c)))) e
-        ∙ ap (λ (z : Sexps). then (found 22 (predicate_named S.theory bs) M) (λ c u. then (terms S z u) (finish S c))) (rest_all ys)
+        ∙ ap (λ (z : Sexps). then (found 22 (predicate_named S.theory bs) M) (λ c u. then (terms S z u) (finish S c))) (rest_none ys)
 
     judgment_unknown : predicate_named S.theory bs ≡ nothing → judgment S (list zs) M ≡ refuse 22 0 M
     unfolding then

@@ -3,7 +3,7 @@ use mathlib.Core.Path.{◌≡◌, refl, sym, ap, ◌∙◌, subst}
 use mathlib.Core.Bool.{Bool, true, false}
 use mathlib.Core.List.{List}
 use Rattle.std.specs.Prelude.{Result}
-use Prim.Native.Nat.{ℕ, ◌+◌, ◌-◌, ◌<◌}
+use Prim.Native.Nat.{ℕ, ◌+◌, ◌-◌}
 use native.Mathlib.Omega.{arith}
 use lib.ListN.{length, take, drop}
 use Rattle.rules.specs.Lex.{letters}
@@ -14,8 +14,6 @@ use Rattle.rules.specs.Store.{Made}
 use Rattle.rules.specs.State.{State, abbreviated}
 use Rattle.rules.specs.Read.{named, term, compound, judgment}
 use Rattle.sexp.specs.Items.{Holds, item_at}
-use Rattle.sexp.specs.ItemLaws.{at_room, some_cells}
-use Rattle.sexp.specs.WalkLaws.{walk_start}
 use Rattle.sexp.specs.AtomText.{atom_part}
 use Rattle.sexp.specs.FirstItem.{AtomFirst, ListFirst, atom_first, list_first, cons_first}
 use Rattle.sexp.specs.declared.items.Item.{Item}
@@ -30,6 +28,7 @@ use Rattle.questions.specs.declared.Question.{Question}
 use Rattle.reading.specs.Given.{ReadsItem, ReadsItems, ReadsDefs, ReadsNames}
 use Rattle.reading.specs.Answers.{TypedBy}
 use Rattle.reading.specs.Heads.{ReadsAtom, Opens, Opened}
+use Rattle.reading.specs.Laws.Walks.{first_some}
 use Rattle.reading.specs.Laws.Reading.{reads_defs, reads_names}
 use Rattle.reading.proofs.TermBehind.{opens}
 
@@ -86,11 +85,8 @@ module _ {K : Names} {n : Sizes} {I W : List ℕ} {m : Mark} {p : ℕ}
 
 -- By what it is --------------------------------------------------------------------------------------------------------------------
 
-pub item_there : {text cells : List ℕ} {x : Sexp} {ys : Sexps} → Holds text cells (cons x ys) → 0 < length cells
-item_there {x = x} h = omega (arith, at_room (walk_start h).here, some_cells x)
-
 pub item_no : {text cells : List ℕ} {x : Sexp} {ys : Sexps} → Holds text cells (cons x ys) → length cells ≡ 0 → ⊥
-item_no h e = omega (arith, item_there h, e)
+item_no h e = omega (arith, first_some h, e)
 
 module _ {K : Names} {n : Sizes} {I W : List ℕ} {m : Mark} {cells : List ℕ} (g : ReadsItem K n I W m cells) {item : Item} (e : item ≡ item_at cells 0) where
   module _ {p : ℕ} (f : item ≡ Atom p) where

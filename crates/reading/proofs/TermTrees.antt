@@ -1,13 +1,12 @@
 -- Trees read one after the other, by their numbers: one more behind those that there are, and whether they fit the sorts of a symbol. Assumes nothing.
-use mathlib.Core.Path.{◌≡◌, refl, sym, ap, ◌∙◌, subst}
+use mathlib.Core.Path.{◌≡◌, refl, sym, ap, ◌∙◌}
 use mathlib.Core.Bool.{Bool, true, false, ◌&&◌, true≢false}
 use mathlib.Core.List.{List, [], ◌∷◌, ◌++◌}
-use Prim.Native.Nat.{ℕ, suc, ◌≤◌, ◌<◌}
+use Prim.Native.Nat.{ℕ, suc}
 use native.Mathlib.Omega.{arith}
-use native.Mathlib.Decide.{dec_lt, ℕ_discrete}
+use native.Mathlib.Decide.{ℕ_discrete}
 use lib.Dec.{eqb}
-use lib.ListN.{length, get_or, length-append, get_or-append}
-use lib.Seq.{get_or-append_seam}
+use lib.ListN.{length, get_or}
 use Rattle.rules.specs.Tree.{Trees, var, none, more, count_trees}
 use Rattle.rules.specs.Store.{Made}
 use Rattle.rules.specs.Theory.{Theory}
@@ -15,26 +14,7 @@ use Rattle.rules.specs.State.{Var, sort_of, fit}
 use Rattle.terms.specs.Table.{args_of}
 use Rattle.terms.specs.Laws.Patterns.{before}
 
--- Lists of numbers ---------------------------------------------------------------------------------------------------------------
-
-pub below_snoc : (n : ℕ) (xs : List ℕ) (x : ℕ) → ((j : ℕ) → j < length xs → get_or xs j 0 < n) → x < n → (j : ℕ) → j < length (xs ++ (x ∷ [])) →
-    get_or (xs ++ (x ∷ [])) j 0 < n
-below_snoc n xs x b l j h = elim (dec_lt j (length xs)) [
-  | yes p ↦ subst (λ (y : ℕ). y < n) (sym (get_or-append xs (x ∷ []) 0 j p)) (b j p)
-  | no q ↦ (let e = length-append xs (x ∷ []) in
-      let z : length xs ≡ j = omega arith in
-      subst (λ (y : ℕ). y < n) (sym (get_or-append_seam xs x [] 0) ∙ ap (λ (i : ℕ). get_or (xs ++ (x ∷ [])) i 0) z) l)
-]
-
-pub more_below : (m n : ℕ) (xs : List ℕ) → m ≤ n → ((j : ℕ) → j < length xs → get_or xs j 0 < m) → (j : ℕ) → j < length xs → get_or xs j 0 < n
-more_below m n xs l b j h = let z = b j h in omega arith
-
 -- Trees before others ------------------------------------------------------------------------------------------------------------
-
-pub before_none : (ts : Trees) → before ts none ≡ ts
-unfolding before
-before_none none = refl
-before_none (more t ts) = ap (more t) (before_none ts)
 
 pub before_args : (M : Made) (xs : List ℕ) (x : ℕ) (us : Trees) → before (args_of M (xs ++ (x ∷ []))) us ≡ before (args_of M xs) (more (get_or M x (var 0)) us)
 unfolding before args_of

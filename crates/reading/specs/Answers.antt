@@ -135,3 +135,13 @@ BindingsBy I W J X old new K before map (Err q) = Stopped I W J X old K (number_
 
 abbrev pub BindingsAs : Store → Store → Out Made (List Binding) → List ℕ → List ℕ → Result (Unit {0}) Question → Type 0
 BindingsAs s t K before map r = BindingsBy s.index.now s.words.now t.index.now t.words.now s.mark t.mark K before map r
+
+-- An answer of no use --------------------------------------------------------------------------------------------------------------
+
+-- K answers, or refuses by the question
+abbrev pub PassedBy : List ℕ → List ℕ → List ℕ → List ℕ → Mark → Mark → Out Made (Unit {0}) → Result (Unit {0}) Question → Type 0
+PassedBy I W J X old new K (Ok _) = Went I W J X old K tt new
+PassedBy I W J X old new K (Err q) = Stopped I W J X old K (number_of q) (detail_of q) new
+
+abbrev pub PassedAs : Store → Store → Out Made (Unit {0}) → Result (Unit {0}) Question → Type 0
+PassedAs s t K r = PassedBy s.index.now s.words.now t.index.now t.words.now s.mark t.mark K r

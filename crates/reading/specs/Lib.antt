@@ -1,4 +1,5 @@
 pub mod Items
+pub mod Earlier
 pub mod Given
 pub mod Answers
 pub mod Heads

@@ -1,4 +1,4 @@
-// Indices and variables: an item that is an atom, looked up by its bytes.
+// Indices, earlier facts and variables: an item that is an atom, looked up by its bytes.
 ghost use Rattle.std.specs.Prelude.{◌≡◌, List};
 ghost use Rattle.rules.specs.Sexp.{Sexp, Sexps, cons};
 ghost use Rattle.rules.specs.State.{Var};
@@ -6,10 +6,13 @@ ghost use Rattle.sexp.specs.Items.{Holds};
 ghost use Rattle.state.specs.Held.{VarsHeld};
 ghost use Rattle.state.specs.Rows.{SomeVars};
 ghost use Rattle.reading.specs.Items.{FirstItem, index_in, variable_in};
+ghost use Rattle.reading.specs.Earlier.{EarlierAs};
 
 use crate::reader::Reader;
+use questions::Question;
 use sexp::items;
 use sexp::names::index_of;
+use state::recorded::is_fact;
 
 // The index that the first item spells.
 pub fn index(text: &[u8], cells: &[u32]) -> Option<usize>
@@ -21,6 +24,20 @@ pub fn index(text: &[u8], cells: &[u32]) -> Option<usize>
 }
 
 impl Reader<'_> {
+    // The earlier fact that the first item numbers.
+    pub fn earlier(&self, cells: &[u32]) -> Result<usize, Question>
+        requires { FirstItem self.now.text.now cells.now }
+        ensures { EarlierAs self.now cells.now result }
+    {
+        let Some(i) = index(self.text, cells) else {
+            return Err(Question::Earlier);
+        };
+        if !is_fact(self.n, i) {
+            return Err(Question::Earlier);
+        }
+        Ok(i)
+    }
+
     // The variable that the first item names.
     pub fn variable(&self, cells: &[u32]) -> Option<usize>
         requires { FirstItem self.now.text.now cells.now × SomeVars self.now.goals.now self.now.text.now self.now.vars.now self.now.n.vars }

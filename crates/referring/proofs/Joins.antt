@@ -1,7 +1,7 @@
 -- What a reference brings along: numbers join a set one after the other, and the hypotheses and the footing of a fact are such numbers.
 -- Assumes nothing.
-use mathlib.Core.Path.{◌≡◌, refl, sym, ap, ◌∙◌}
-use mathlib.Core.Bool.{Bool, true, false, ◌||◌}
+use mathlib.Core.Path.{◌≡◌, sym, ap, ◌∙◌}
+use mathlib.Core.Bool.{Bool, true, false}
 use mathlib.Core.List.{List, ◌∷◌}
 use Prim.Native.Nat.{ℕ, ◌+◌, ◌*◌, ◌<◌, ◌≤◌}
 use native.Mathlib.Omega.{arith}
@@ -14,35 +14,25 @@ use Rattle.rules.specs.Find.{Set, union, has}
 use Rattle.rules.specs.Laws.Theory.{all_at}
 use Rattle.rules.specs.Laws.Set.{union_empty}
 use Rattle.terms.specs.Sets.{holds, plus}
-use Rattle.terms.specs.Laws.Sets.{plus_has}
+use Rattle.terms.specs.Laws.Sets.{plus_has, or_last}
 use Rattle.state.specs.Held.{records}
-use Rattle.state.specs.Rows.{FootingAt, hyps_span}
+use Rattle.state.specs.Rows.{FactAt, hyps_span}
 use Rattle.state.specs.Entries.{part}
 use Rattle.state.specs.FactLaws.{FactRow, fact_row_lem}
 use Rattle.referring.specs.Recall.{fact_of, RecallsFact}
 use Rattle.referring.specs.Referral.{rests_on}
-use Rattle.referring.specs.Laws.Refers.{footing_asks}
+use Rattle.referring.specs.Laws.Refers.{fact_asks}
 
 -- Numbers that join a set --------------------------------------------------------------------------------------------------------------------
 
-or_move : (p q r : Bool) → (p || q) || r ≡ p || (r || q)
-or_move true q r = refl
-or_move false true true = refl
-or_move false true false = refl
-or_move false false true = refl
-or_move false false false = refl
-
 one_joins : (a : Set) (v : ℕ) (xs : List ℕ) → union (plus v a) (has xs) ≡ union a (has (v ∷ xs))
-one_joins a v xs = (λ i w. or_move (a w) (eqb w v) (has xs w) i) ∙ ap (λ (s : Set). union a s) (sym (plus_has v xs))
+one_joins a v xs = (λ i w. or_last (a w) (eqb w v) (has xs w) i) ∙ ap (λ (s : Set). union a s) (sym (plus_has v xs))
 
 -- those from k on are left
 pub record Joining (ids before set : List ℕ) (k : ℕ) : Type 0 where
   pub inside : k ≤ length ids
   pub long : length set ≡ length before
   pub left : union (holds set) (has (drop k ids)) ≡ union (holds before) (has ids)
-
-pub joining_start : (ids set : List ℕ) → Joining ids set set 0
-joining_start ids set = record { inside = omega arith; long = refl; left = refl }
 
 pub joining_more : (ids before set after : List ℕ) (k : ℕ) → Joining ids before set k → k < length ids → length after ≡ length set →
     holds after ≡ plus (get_or ids k 0) (holds set) → Joining ids before after (k + 1)
@@ -65,8 +55,8 @@ module _ {facts footings lists : List ℕ} {i : ℕ} (g : RecallsFact facts foot
   abbrev row : FactRow (records facts footings lists) g.n g.trees g.S i (fact_of g.S i)
   row = fact_row_lem g.recorded i g.there
 
-  pub join_asks : (footing : List ℕ) → length footing ≡ RULEWORDS → FootingAt footings i × (length footing ≡ 4)
-  join_asks footing e = (footing_asks g.recorded g.there, e)
+  pub join_asks : (footing : List ℕ) → length footing ≡ RULEWORDS → FactAt facts i × (length footing ≡ 4)
+  join_asks footing e = (fact_asks g.recorded g.there, e)
 
   pub footing_joins : (before after : List ℕ) → holds after ≡ union (holds before) (holds (take 4 (drop (4 * i) footings))) →
       holds after ≡ union (holds before) (has (fact_of g.S i).footing)

@@ -2,7 +2,7 @@
 use mathlib.Core.Path.{◌≡◌, refl, sym, ap, ◌∙◌, subst}
 use mathlib.Core.Bool.{true, false}
 use Rattle.std.specs.Prelude.{Option, Some as some, None as nothing, Result}
-use mathlib.Core.List.{List, [], ◌∷◌}
+use mathlib.Core.List.{List, []}
 use Prim.Native.Nat.{ℕ, ◌-◌, ◌<◌, ◌≤◌}
 use native.Mathlib.Omega.{arith}
 use lib.ListN.{length, get_or, take, drop, replicate, length-replicate}
@@ -39,7 +39,8 @@ use Rattle.reading.specs.Items.{FirstItem, index_in, index_found}
 use Rattle.reading.specs.Given.{ReadsItems}
 use Rattle.reading.specs.Answers.{BindingsRead}
 use Rattle.referring.specs.Recall.{fact_of, BareItem, RefersItem, RefersItems}
-use Rattle.referring.specs.Sources.{Missing}
+use Rattle.reading.specs.Earlier.{Missing}
+use Rattle.reading.specs.Laws.Lists.{empty_is, empty_not}
 use Rattle.referring.specs.Referral.{rests_on, instances_of, ref_of, RefRead, ReferredBy}
 use Rattle.reading.specs.Laws.Bindings.{bindings_replaceable, bindings_along}
 use Rattle.referring.specs.Laws.Refers.{fact_here, fact_found, fact_none, fact_asks, refers_bare, refers_items}
@@ -68,16 +69,6 @@ module _ {facts footings lists : List ℕ} {n : Sizes} {M : Made} {S : State} (h
   hyps_many =
       let r = fact_row_lem h i l in
       omega (arith, part_long lists (hyps_span facts i) (fact_of S i).hyps r.hyps (omega (arith, r.inside, lists_long h)))
-
-empty_is : (xs : List ℕ) → length xs ≡ 0 → is_empty xs ≡ true
-unfolding is_empty
-empty_is [] e = refl
-empty_is (x ∷ xs) e = absurd (omega arith)
-
-empty_not : (xs : List ℕ) → (length xs ≡ 0 → ⊥) → is_empty xs ≡ false
-unfolding is_empty
-empty_not [] e = absurd (e refl)
-empty_not (x ∷ xs) e = refl
 
 -- A fact by its number ---------------------------------------------------------------------------------------------------------------------
 

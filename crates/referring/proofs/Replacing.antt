@@ -13,12 +13,13 @@ use Rattle.rules.specs.Tree.{Trees, more}
 use Rattle.rules.specs.Store.{Made, substitute, substitutes}
 use Rattle.rules.specs.Laws.Out.{then_then}
 use Rattle.terms.specs.declared.store.Mark.{Mark}
-use Rattle.terms.specs.Table.{made, tree, args_of}
+use Rattle.terms.specs.Table.{Below, made, tree, args_of}
 use Rattle.terms.specs.Subst.{replacement}
 use Rattle.terms.specs.On.{Went, Stopped, On, on_start, on_is, on_ok, on_no, on_done}
 use Rattle.reading.specs.Laws.Walks.{then_same}
-use Rattle.referring.specs.Substitutes.{Below, Replaceables, Replaced}
-use Rattle.referring.specs.Laws.Substitutes.{below_none, below_snoc, below_grown, ahead, ahead_none, ahead_snoc, ahead_grown}
+use Rattle.referring.specs.Substitutes.{Replaceables, Replaced}
+use Rattle.terms.specs.Laws.Below.{below_none, below_snoc, below_grown, ahead, ahead_none, ahead_snoc}
+use Rattle.referring.specs.Laws.Substitutes.{ahead_grown}
 
 -- what is answered of the rest, behind these
 abbrev after : Made → List ℕ → Trees → Made → Out Made Trees

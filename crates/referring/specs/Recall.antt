@@ -1,6 +1,6 @@
 -- What the functions of this crate are given: texts and tables that stand for a state, with the items that the cells hold. Each record holds the
 -- state and the items, so that a contract says its answer of whatever they are. Assumes nothing.
-use Rattle.std.specs.Prelude.{◌≡◌, List, ℕ, ◌/◌, ◌<◌, length, get_or}
+use Rattle.std.specs.Prelude.{◌≡◌, List, [], ◌∷◌, ℕ, ◌/◌, ◌<◌, length, get_or}
 use Rattle.rules.specs.Limits.{TERMS, VARIABLES}
 use Rattle.rules.specs.Sexp.{Sexp, Sexps, cons}
 use Rattle.rules.specs.Store.{Made}
@@ -11,11 +11,17 @@ use Rattle.terms.specs.Table.{made, Good}
 use Rattle.state.specs.declared.sizes.Sizes.{Sizes}
 use Rattle.state.specs.Held.{Names, records, Recorded}
 use Rattle.state.specs.RowCells.{no_fact}
+use Rattle.state.specs.Rows.{cell}
 use Rattle.reading.specs.Given.{Reads}
 
 -- fact i
 abbrev pub fact_of : State → ℕ → Fact
 fact_of S i = get_or S.facts i no_fact
+
+-- the judgments of facts, by their numbers
+unfoldable pub judgment_cells : List ℕ → List ℕ → List ℕ
+judgment_cells facts [] = []
+judgment_cells facts (h ∷ hs) = cell 6 facts h 0 ∷ judgment_cells facts hs
 
 -- the facts in their tables, beside the store
 pub record Recalls (facts lists : List ℕ) (n : Sizes) (I W : List ℕ) (m : Mark) : Type 0 where

@@ -1,12 +1,12 @@
 -- The texts and tables from which the forms of facts are read, as they are lent: what they must say, and what is asked of the store and the sets beside
 -- them. Each is the relation of the same meaning over plain tables. Assumes nothing.
-use Rattle.std.specs.Prelude.{◌≡◌, ◌≢◌, List, ℕ, ◌≤◌, ◌<◌, ◌⊎◌, Some as some, None as nothing, Option, Result, Ok, Err}
+use Rattle.state.specs.Records.{fact_rows, fact_feet}
+use Rattle.std.specs.Prelude.{◌≡◌, ◌≢◌, List, ℕ, ◌≤◌, ◌<◌, ◌⊎◌, Result, Ok, Err}
 use Rattle.rules.specs.Find.{Set}
-use Rattle.rules.specs.Sexp.{Sexp, Sexps, atom, cons}
+use Rattle.rules.specs.Sexp.{atom}
 use Rattle.rules.specs.Out.{Out, ok, refuse}
 use Rattle.rules.specs.Store.{Made}
 use Rattle.rules.specs.Reference.{reference}
-use Rattle.sexp.specs.Items.{Holds}
 use Rattle.questions.specs.declared.Question.{Question}
 use Rattle.questions.specs.declared.Question.TheVariants.{Earlier, CaseJudgment}
 use Rattle.questions.specs.Numbers.{number_of, detail_of}
@@ -19,10 +19,8 @@ use Rattle.terms.specs.Sets.{holds}
 use Rattle.terms.specs.Collect.{Seen}
 use Rattle.state.specs.Held.{Names, RuleLists, rule_lists}
 use Rattle.state.specs.Rows.{cell}
-use Rattle.state.specs.declared.sizes.Sizes.{Sizes}
 use Rattle.state.specs.declared.board.Given.{Given}
 use Rattle.state.specs.declared.board.Board.{Board}
-use Rattle.reading.specs.Items.{index_in}
 use Rattle.reading.specs.Reader.{names_of, reader_of}
 use Rattle.referring.specs.declared.source.Facts.{Facts}
 use Rattle.referring.specs.declared.source.Source.{Source}
@@ -34,15 +32,14 @@ use Rattle.referring.specs.Derived.{FactForm, RuleForm, ReadableCells}
 -- Parts of it ------------------------------------------------------------------------------------------------------------------------
 
 abbrev pub facts_of : Source → Facts
-facts_of s = record { rows = s.rows; footings = s.footings; lists = s.lists; n = s.reader.n }
+facts_of s = record { records = s.records; lists = s.lists; n = s.reader.n }
 
 -- that of a check
 abbrev pub source_of : Given → Board → Source
 source_of g b =
     record {
       reader = reader_of g b;
-      rows = record { ref_ptr = b.facts.ref_ptr; now = b.facts.now };
-      footings = record { ref_ptr = b.footings.ref_ptr; now = b.footings.now };
+      records = record { ref_ptr = b.facts.ref_ptr; now = b.facts.now };
       lists = record { ref_ptr = b.lists.ref_ptr; now = b.lists.now };
     }
 
@@ -56,49 +53,40 @@ rules_of s p = rule_lists s.reader.theory.now p.rows.now p.vars.now p.patterns.n
 
 -- one is read, and the items of one
 abbrev pub ReadsReference : Source → Store → List ℕ → Type 0
-ReadsReference s t cells = RefersItem (source_names s) s.rows.now s.reader.n t.index.now t.words.now t.mark cells
+ReadsReference s t cells = RefersItem (source_names s) (fact_rows s.records.now) s.reader.n t.index.now t.words.now t.mark cells
 
 abbrev pub ReadsReferences : Source → Store → List ℕ → Type 0
-ReadsReferences s t cells = RefersItems (source_names s) s.rows.now s.reader.n t.index.now t.words.now t.mark cells
-
--- what the first item numbers is an earlier fact, or not
-abbrev pub Missing : Sizes → Option ℕ → Type 0
-Missing n (some i) = n.facts ≤ i
-Missing n nothing = Unit {0}
-
-abbrev pub EarlierAs : Source → List ℕ → Result ℕ Question → Type 0
-EarlierAs s cells (Ok i) = ((x : Sexp) (ys : Sexps) → Holds s.reader.text.now cells (cons x ys) → index_in x ≡ some i) × (i < s.reader.n.facts)
-EarlierAs s cells (Err q) = (q ≡ Earlier) × ((x : Sexp) (ys : Sexps) → Holds s.reader.text.now cells (cons x ys) → Missing s.reader.n (index_in x))
+ReadsReferences s t cells = RefersItems (source_names s) (fact_rows s.records.now) s.reader.n t.index.now t.words.now t.mark cells
 
 -- a bare one, beside some store
 abbrev pub ReadsBare : Source → List ℕ → Type 0
-ReadsBare s cells = (m : Mark) × BareItem s.reader.text.now s.rows.now s.reader.n m cells
+ReadsBare s cells = (m : Mark) × BareItem s.reader.text.now (fact_rows s.records.now) s.reader.n m cells
 
 abbrev pub ReferredBare : Source → List ℕ → Result Referred Question → Type 0
 ReferredBare s cells r =
-    (m : Mark) (g : BareItem s.reader.text.now s.rows.now s.reader.n m cells) (p : ℕ) (bs : List ℕ) → g.x ≡ atom p bs →
+    (m : Mark) (g : BareItem s.reader.text.now (fact_rows s.records.now) s.reader.n m cells) (p : ℕ) (bs : List ℕ) → g.x ≡ atom p bs →
     ReferredBy g.index g.words g.index g.words m m g.S (reference g.S g.x (made g.index g.words m)) r
 
 -- Forms of facts ---------------------------------------------------------------------------------------------------------------------
 
 abbrev pub ReadsForm : Source → Store → List ℕ → ℕ → Type 0
-ReadsForm s t cells least = FactForm (source_names s) s.rows.now s.footings.now s.lists.now s.reader.n t.index.now t.words.now t.mark cells least
+ReadsForm s t cells least = FactForm (source_names s) (fact_rows s.records.now) (fact_feet s.records.now) s.lists.now s.reader.n t.index.now t.words.now t.mark cells least
 
 abbrev pub ReadsRuleForm : Source → Rules → Store → List ℕ → ℕ → Type 0
 ReadsRuleForm s p t cells least =
-    RuleForm (source_names s) (rules_of s p) s.rows.now s.footings.now s.lists.now s.reader.n t.index.now t.words.now t.mark cells least
+    RuleForm (source_names s) (rules_of s p) (fact_rows s.records.now) (fact_feet s.records.now) s.lists.now s.reader.n t.index.now t.words.now t.mark cells least
 
 -- Facts ------------------------------------------------------------------------------------------------------------------------------
 
 -- fact i is there, and its judgment is the term t
 abbrev pub ConcludesAs : Facts → ℕ → ℕ → Result (Unit {0}) Question → Type 0
-ConcludesAs f i t (Ok _) = (i < f.n.facts) × (cell 6 f.rows.now i 0 ≡ t)
-ConcludesAs f i t (Err q) = ((q ≡ Earlier) × (f.n.facts ≤ i)) ⊎ ((q ≡ CaseJudgment) × (i < f.n.facts) × (cell 6 f.rows.now i 0 ≢ t))
+ConcludesAs f i t (Ok _) = (i < f.n.facts) × (cell 6 (fact_rows f.records.now) i 0 ≡ t)
+ConcludesAs f i t (Err q) = ((q ≡ Earlier) × (f.n.facts ≤ i)) ⊎ ((q ≡ CaseJudgment) × (i < f.n.facts) × (cell 6 (fact_rows f.records.now) i 0 ≢ t))
 
 -- Facts and terms --------------------------------------------------------------------------------------------------------------------
 
 abbrev pub RecallsIn : Facts → Terms → Type 0
-RecallsIn f t = Recalls f.rows.now f.lists.now f.n t.index.now t.words.now t.mark
+RecallsIn f t = Recalls (fact_rows f.records.now) f.lists.now f.n t.index.now t.words.now t.mark
 
 abbrev pub ReadableIn : Terms → List ℕ → List ℕ → List ℕ → Type 0
 ReadableIn t ids seen set = ReadableAll t.index.now t.words.now t.mark ids seen set

@@ -1,5 +1,5 @@
 -- Terms that are put under one substitution, each in turn: what is asked, and what is answered. Assumes nothing.
-use Rattle.std.specs.Prelude.{◌≡◌, List, ℕ, ◌≤◌, ◌<◌, length, get_or, replicate, Result, Ok, Err}
+use Rattle.std.specs.Prelude.{◌≡◌, List, ℕ, ◌≤◌, length, get_or, replicate, Result, Ok, Err}
 use Rattle.rules.specs.Limits.{TERMS}
 use Rattle.rules.specs.Out.{Out}
 use Rattle.rules.specs.Tree.{Trees}
@@ -8,12 +8,8 @@ use Rattle.questions.specs.Numbers.{row_number}
 use Rattle.questions.specs.declared.Row.{Row}
 use Rattle.terms.specs.declared.store.Mark.{Mark}
 use Rattle.terms.specs.declared.store.Store.{Store}
-use Rattle.terms.specs.Table.{made, args_of, Good}
+use Rattle.terms.specs.Table.{made, args_of, Below, Good}
 use Rattle.terms.specs.On.{Went, Stopped}
-
--- numbers that are all below n
-abbrev pub Below : ℕ → List ℕ → Type 0
-Below n xs = (k : ℕ) → k < length xs → get_or xs k 0 < n
 
 -- a map of terms that are there, a memo without results, terms, and a cell for each
 pub record Replaceables (I W : List ℕ) (m : Mark) (map memo ids out : List ℕ) : Type 0 where

@@ -1,4 +1,5 @@
 // What a fact concludes, and its entries in the lists as they stand there.
+ghost use Rattle.state.specs.Records.{fact_rows};
 ghost use Rattle.std.specs.Prelude.{◌≡◌, List, ℕ, ◌*◌, ◌≤◌, length};
 ghost use Rattle.rules.specs.Limits.{FACTS};
 ghost use Rattle.state.specs.Rows.{hyps_span, premises_span, general_span};
@@ -9,18 +10,18 @@ ghost use Rattle.referring.specs.Sources.{ConcludesAs};
 use crate::source::Facts;
 use cells::Span;
 use questions::Question;
-use state::facts::{general, hyps, is_fact, judgment, premises};
+use state::recorded::{general, hyps, is_fact, judgment, premises};
 
 impl<'a> Facts<'a> {
     // Whether fact i is there (question 34) and concludes the term t (question 43).
     pub fn concludes(&self, i: usize, t: usize) -> Result<(), Question>
-        requires { (length self.now.rows.now ≡ 6 * FACTS) × (self.now.n.facts ≤ FACTS) }
+        requires { (length (fact_rows self.now.records.now) ≡ 6 * FACTS) × (self.now.n.facts ≤ FACTS) }
         ensures { ConcludesAs self.now i t result }
     {
         if !is_fact(self.n, i) {
             return Err(Question::Earlier);
         }
-        if judgment(self.rows, i) != t {
+        if judgment(self.records, i) != t {
             return Err(Question::CaseJudgment);
         }
         Ok(())
@@ -29,28 +30,28 @@ impl<'a> Facts<'a> {
     // The hypotheses of fact i. These are three methods, as each names the field of the row that it reads; one with the reader handed in would have to carry
     // what that promises.
     pub fn hyps(&self, i: usize) -> &'a [u32]
-        requires { (footings : List ℕ) × RecallsFact self.now.rows.now footings self.now.lists.now i }
-        ensures { result.now ≡ part self.now.lists.now (hyps_span self.now.rows.now i) }
+        requires { (footings : List ℕ) × RecallsFact (fact_rows self.now.records.now) footings self.now.lists.now i }
+        ensures { result.now ≡ part self.now.lists.now (hyps_span (fact_rows self.now.records.now) i) }
     {
-        let Span { from, end } = hyps(self.rows, i);
+        let Span { from, end } = hyps(self.records, i);
         &self.lists[from..end]
     }
 
     // Its premises.
     pub fn premises(&self, i: usize) -> &'a [u32]
-        requires { (footings : List ℕ) × RecallsFact self.now.rows.now footings self.now.lists.now i }
-        ensures { result.now ≡ part self.now.lists.now (premises_span self.now.rows.now i) }
+        requires { (footings : List ℕ) × RecallsFact (fact_rows self.now.records.now) footings self.now.lists.now i }
+        ensures { result.now ≡ part self.now.lists.now (premises_span (fact_rows self.now.records.now) i) }
     {
-        let Span { from, end } = premises(self.rows, i);
+        let Span { from, end } = premises(self.records, i);
         &self.lists[from..end]
     }
 
     // Its generalised variables.
     pub fn general(&self, i: usize) -> &'a [u32]
-        requires { (footings : List ℕ) × RecallsFact self.now.rows.now footings self.now.lists.now i }
-        ensures { result.now ≡ part self.now.lists.now (general_span self.now.rows.now i) }
+        requires { (footings : List ℕ) × RecallsFact (fact_rows self.now.records.now) footings self.now.lists.now i }
+        ensures { result.now ≡ part self.now.lists.now (general_span (fact_rows self.now.records.now) i) }
     {
-        let Span { from, end } = general(self.rows, i);
+        let Span { from, end } = general(self.records, i);
         &self.lists[from..end]
     }
 }

@@ -7,15 +7,15 @@ ghost use Rattle.terms.specs.Lent.{SameTables, made_of};
 ghost use Rattle.terms.specs.Sets.{holds};
 ghost use Rattle.referring.specs.Referral.{ReferredAs};
 ghost use Rattle.reading.specs.Items.{FirstItem};
-ghost use Rattle.referring.specs.Sources.{EarlierAs, ReadsBare, ReferredBare, ReadsReference, ReadsReferences};
+ghost use Rattle.reading.specs.Earlier.{EarlierAs};
+ghost use Rattle.referring.specs.Sources.{ReadsBare, ReferredBare, ReadsReference, ReadsReferences};
 
 use crate::source::Source;
 use questions::Question;
-use reading::names::index as index_in;
 use rules::VARIABLES;
 use sexp::items;
 use sexp::items::Item;
-use state::facts::{hyps as hyps_of, is_fact, judgment};
+use state::recorded::{hyps as hyps_of, judgment};
 use terms::sets::insert;
 use terms::store::Store;
 use terms::substitute::substitute;
@@ -32,15 +32,9 @@ impl Source<'_> {
     // The earlier fact that the first item numbers.
     pub fn earlier(&self, cells: &[u32]) -> Result<usize, Question>
         requires { FirstItem self.now.reader.text.now cells.now }
-        ensures { EarlierAs self.now cells.now result }
+        ensures { EarlierAs self.now.reader cells.now result }
     {
-        let Some(i) = index_in(self.reader.text, cells) else {
-            return Err(Question::Earlier);
-        };
-        if !is_fact(self.reader.n, i) {
-            return Err(Question::Earlier);
-        }
-        Ok(i)
+        self.reader.earlier(cells)
     }
 
     // The fact that the first item numbers, named bare.
@@ -50,7 +44,7 @@ impl Source<'_> {
     {
         let i = self.earlier(cells)?;
         Ok(Referred {
-            judgment: judgment(self.rows, i),
+            judgment: judgment(self.records, i),
             fact: i,
             bare: true,
         })
@@ -76,14 +70,14 @@ impl Source<'_> {
         let i = self.earlier(cells)?;
         // Its row says whether there are any. `Facts::hyps` in its place would ask that the entries are right, and so would `reference` of each who calls
         // it, which asks nothing of them.
-        let own = hyps_of(self.rows, i);
+        let own = hyps_of(self.records, i);
         if own.from != own.end {
             return Err(Question::Instance);
         }
         let next = items::after(cells, 0);
         let mut map = [0; VARIABLES];
         self.reader.bindings(store, &cells[next..], &mut map)?;
-        let term = substitute(store, &map, memo, judgment(self.rows, i))?;
+        let term = substitute(store, &map, memo, judgment(self.records, i))?;
         Ok(Referred {
             judgment: term,
             fact: i,

@@ -23,7 +23,7 @@ use crate::references::insert_all;
 use crate::source::Facts;
 use questions::Question;
 use rules::{FACTS, TERMWORDS, VARIABLEWORDS};
-use state::facts::judgment;
+use state::recorded::judgment;
 use terms::sets::{count, lowest_outside, minus_from, union_into, write_out};
 use terms::store::Terms;
 use terms::variables::visit;
@@ -46,7 +46,7 @@ impl Facts<'_> {
         requires seen { SeenIn terms.now seen.old set.old }
         ensures { (g : RecallsIn self.now terms.now) → GatheredIn terms.now (mentioned (fact_of g.S i)) set.old seen.new set.new }
     {
-        visit(terms, judgment(self.rows, i), seen, set);
+        visit(terms, judgment(self.records, i), seen, set);
         visit_all(terms, self.premises(i), seen, set);
     }
 

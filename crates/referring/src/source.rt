@@ -2,15 +2,15 @@
 ghost use Rattle.std.specs.Prelude.{◌≡◌};
 ghost use Rattle.referring.specs.Sources.{facts_of, source_of};
 
+use facts::Fact;
 use reading::reader::{Reader, reader_of};
 use state::board::{Board, Given};
 use state::sizes::Sizes;
 
-// The facts: a row each, their footings, the entries of their lists; and how much of each table is used.
+// The facts: a record each, the entries of their lists; and how much of each table is used.
 #[derive(Clone, Copy)]
 pub struct Facts<'a> {
-    pub rows: &'a [u32],
-    pub footings: &'a [u64],
+    pub records: &'a [Fact],
     pub lists: &'a [u32],
     pub n: Sizes,
 }
@@ -20,8 +20,7 @@ pub struct Facts<'a> {
 #[derive(Clone, Copy)]
 pub struct Source<'a> {
     pub reader: Reader<'a>,
-    pub rows: &'a [u32],
-    pub footings: &'a [u64],
+    pub records: &'a [Fact],
     pub lists: &'a [u32],
 }
 
@@ -31,8 +30,7 @@ impl Source<'_> {
         ensures { result ≡ facts_of self.now }
     {
         Facts {
-            rows: self.rows,
-            footings: self.footings,
+            records: self.records,
             lists: self.lists,
             n: self.reader.n,
         }
@@ -45,8 +43,7 @@ pub fn source_of<'a>(given: &Given<'a>, board: &'a Board<'_>) -> Source<'a>
 {
     Source {
         reader: reader_of(given, board),
-        rows: board.facts,
-        footings: board.footings,
+        records: board.facts,
         lists: board.lists,
     }
 }

@@ -1,4 +1,5 @@
 // What a fact rests on, and the answer of all forms of facts.
+ghost use Rattle.state.specs.Records.{fact_rows, fact_feet};
 ghost use Rattle.std.specs.Prelude.{◌≡◌};
 ghost use Rattle.rules.specs.Find.{union, has};
 ghost use Rattle.terms.specs.Sets.{holds};
@@ -8,7 +9,7 @@ ghost use Rattle.referring.specs.Referral.{rests_on};
 use crate::references::{Referred, insert_all};
 use crate::source::Facts;
 use rules::{FACTWORDS, RULEWORDS};
-use state::facts::join_footing;
+use state::recorded::join_footing;
 
 // Hypotheses, and the rules of a footing, as sets.
 #[derive(Clone, Copy)]
@@ -34,12 +35,12 @@ impl Support {
 
     // What a reference brings: the hypotheses that it rests on, and its fact's footing. This is the one place where footings join.
     pub fn join(&mut self, facts: &Facts<'_>, referred: &Referred)
-        requires { RecallsFact facts.now.rows.now facts.now.footings.now facts.now.lists.now referred.now.fact }
-        ensures { (g : RecallsFact facts.now.rows.now facts.now.footings.now facts.now.lists.now referred.now.fact) →
+        requires { RecallsFact (fact_rows facts.now.records.now) (fact_feet facts.now.records.now) facts.now.lists.now referred.now.fact }
+        ensures { (g : RecallsFact (fact_rows facts.now.records.now) (fact_feet facts.now.records.now) facts.now.lists.now referred.now.fact) →
             (holds self.new.hyps ≡ union (holds self.old.hyps) (has (rests_on g.S referred.now.fact referred.now.bare)))
             × (holds self.new.footing ≡ union (holds self.old.footing) (has (fact_of g.S referred.now.fact).footing)) }
     {
-        join_footing(facts.footings, referred.fact, &mut self.footing);
+        join_footing(facts.records, referred.fact, &mut self.footing);
         if referred.bare {
             insert_all(facts.hyps(referred.fact), &mut self.hyps);
         }

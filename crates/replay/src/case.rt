@@ -1,4 +1,5 @@
 // Stored cases, read one by one. What is missing at the end of the input counts as empty.
+use running::texts::Texts;
 use std::alloc::Global;
 use std::io;
 use std::io::{BufRead, Read};
@@ -15,6 +16,16 @@ pub struct Case {
     pub proof: Vec<u8>,
     pub answer: Vec<u8>,
     pub recorded: Vec<u8>,
+}
+
+impl Case {
+    pub fn texts(&self) -> Texts<'_> {
+        Texts {
+            theory: &self.theory,
+            goals: &self.goals,
+            proof: &self.proof,
+        }
+    }
 }
 
 // A number in decimal, with the byte that ends it. One of more than nine digits is cut.

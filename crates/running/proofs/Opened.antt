@@ -1,103 +1,53 @@
--- The loop of `count_open`: what is counted, and what is left of the goals, make the whole. Assumes nothing.
-use mathlib.Core.Path.{◌≡◌, sym, ap, ◌∙◌, subst}
-use Prim.Native.Nat.{ℕ, suc, ◌+◌, ◌*◌, ◌<◌, ◌≤◌}
+-- What `count_open` counts: the rows whose judgment has a variable are as many as the goals whose judgment has one. Assumes nothing.
+use mathlib.Core.Path.{◌≡◌, refl, sym, ap, ◌∙◌}
+use Prim.Native.Nat.{ℕ, suc, ◌+◌, ◌<◌}
 use mathlib.Core.Bool.{Bool, true, false}
-use mathlib.Core.List.{List}
+use mathlib.Core.List.{List, [], ◌∷◌}
 use native.Mathlib.Omega.{arith}
-use native.Mathlib.Numerals.{add-one}
-use lib.ListN.{length, get_or, drop, drop_of_length-le}
-use lib.Seq.{drop-cons}
-use Rattle.rules.specs.Limits.{GOALS}
-use Rattle.rules.specs.Tree.{var, is_open}
+use lib.ListN.{length, get_or}
+use Rattle.std.specs.List.{filter, range_with_len}
+use Rattle.rules.specs.Tree.{is_open}
 use Rattle.rules.specs.State.{Goal}
 use Rattle.rules.specs.Check.{count_open}
 use Rattle.rules.specs.TheoryTables.{name_cells}
 use Rattle.rules.specs.Laws.Theory.{all_at}
-use Rattle.terms.specs.declared.store.Mark.{Mark}
+use Rattle.terms.specs.declared.store.Terms.{Terms}
 use Rattle.terms.specs.Table.{made}
-use Rattle.terms.specs.Node.{HeldIn, OpenIs}
 use Rattle.terms.specs.Laws.Growth.{made_length}
 use Rattle.state.specs.Rows.{cell}
 use Rattle.state.specs.RowCells.{no_goal, goal_row}
 use Rattle.state.specs.Numbered.{Numbered, numbered_at}
 use Rattle.state.specs.GoalLaws.{goals_long, goal_at}
-use Rattle.running.specs.Finished.{OpenRows}
+use Rattle.running.specs.Finished.{OpenRowsIn, OpenRowAt, row_open}
 
--- the goal at k comes first
-open_at : (gs : List Goal) (k : ℕ) → k < length gs → (b : Bool) → is_open (get_or gs k no_goal).judgment ≡ b →
-    count_open (drop k gs) ≡ elim b [ true ↦ suc (count_open (drop (k + 1) gs)) | false ↦ count_open (drop (k + 1) gs) ]
+-- numbers from a on that say which goals are open
+numbers_open : (test : ℕ → Bool) (gs : List Goal) (a : ℕ) → ((k : ℕ) → k < length gs → test (a + k) ≡ is_open (get_or gs k no_goal).judgment) →
+    length (filter test (range_with_len a (length gs))) ≡ count_open gs
 unfolding count_open
-open_at gs k l b e =
-    ap count_open (drop-cons gs k no_goal l)
-    ∙ (λ i. elim (e i) [ true ↦ suc (count_open (drop (sym (add-one k) i) gs)) | false ↦ count_open (drop (sym (add-one k) i) gs) ])
+numbers_open test [] a h = refl
+numbers_open test (g ∷ gs) a h = go (is_open g.judgment) (ap test (omega arith) ∙ h 0 (omega arith))
+    (numbers_open test gs (a + 1) (λ k l. ap test (omega arith) ∙ h (suc k) (omega arith)))
+  where
+    go : (b : Bool) → test a ≡ b → length (filter test (range_with_len (a + 1) (length gs))) ≡ count_open gs →
+        length (filter test (range_with_len a (suc (length gs)))) ≡ elim b [ true ↦ suc (count_open gs) | false ↦ count_open gs ]
+    go true e i = rw e (ap suc i)
+    go false e i = rw e i
 
--- so many are open of the first k
-pub record Opening (gs : List Goal) (many k : ℕ) : Type 0 where
-  pub count : many + count_open (drop k gs) ≡ count_open gs
-
-module _ {rows index words : List ℕ} {mark : Mark} {count : ℕ} (g : OpenRows rows index words mark count) where
-  pub open_rows_long : length rows ≡ 6 * GOALS
-  open_rows_long = goals_long g.held
-
-  -- what `goal_judgment` says
-  numbered : (k : ℕ) → k < count → Numbered (made index words mark) (get_or g.gs k no_goal).judgment (cell 6 rows k 2)
+module _ {rows : List ℕ} (t : Terms) {count : ℕ} (g : OpenRowsIn rows t count) where
+  numbered : (k : ℕ) → k < count → Numbered (made t.index.now t.words.now t.mark) (get_or g.gs k no_goal).judgment (cell 6 rows k 2)
   unfolding goal_row name_cells
-  numbered k l =
-      numbered_at (cell 6 rows k 2) (all_at g.gs k no_goal g.there (omega (arith, g.held.many))) (goal_at g.held k 2 l (omega arith))
+  numbered k l = numbered_at (cell 6 rows k 2) (all_at g.gs k no_goal g.there (omega (arith, g.held.many))) (goal_at g.held k 2 l (omega arith))
 
-  below : (k : ℕ) → k < count → cell 6 rows k 2 < mark.terms
-  below k l = let z = made_length index words mark in omega (arith, (numbered k l).below)
-
-  -- what `is_open` asks
-  pub judgment_held : {id : ℕ} (k : ℕ) → k < count → id ≡ cell 6 rows k 2 → HeldIn index id
-  judgment_held {id} k l e =
-      record { words = words; held = record { mark = mark; good = g.good; there = subst (λ n. n < mark.terms) (sym e) (below k l) } }
-
-  -- what it says
-  open_is : {id : ℕ} {r : Bool} (k : ℕ) → k < count → id ≡ cell 6 rows k 2 → OpenIs index id r → is_open (get_or g.gs k no_goal).judgment ≡ r
-  open_is {id} {r} k l e o =
-      ap is_open (sym (numbered k l).tree ∙ ap (λ n. get_or (made index words mark) n (var 0)) (sym e))
-      ∙ sym (o words mark g.good (subst (λ n. n < mark.terms) (sym e) (below k l)))
-
-  pub opening_start : Opening g.gs 0 0
-  opening_start = record { count = omega arith }
-
-  module _ {many k id : ℕ} (h : Opening g.gs many k) (l : k < count) (e : id ≡ cell 6 rows k 2) where
-    pub opening_more : (r : Bool) → OpenIs index id r → r ≡ true → Opening g.gs (many + 1) (k + 1)
-    opening_more r o t =
-        let s = open_at g.gs k (omega (arith, g.held.many)) true (open_is k l e o ∙ t) in
-        record { count = omega (arith, h.count) }
-
-    pub opening_skip : (r : Bool) → OpenIs index id r → r ≡ false → Opening g.gs many (k + 1)
-    opening_skip r o t =
-        let s = open_at g.gs k (omega (arith, g.held.many)) false (open_is k l e o ∙ t) in
-        record { count = omega (arith, h.count) }
-
-  -- all are seen
-  pub opening_over : {many k : ℕ} → Opening g.gs many k → count ≤ k → many ≡ count_open g.gs
-  unfolding count_open
-  opening_over {many} {k} h l =
-      let s = ap count_open (drop_of_length-le g.gs {i = k} (omega (arith, g.held.many))) in
-      omega (arith, h.count)
-
--- The loop ---------------------------------------------------------------------------------------------------------------------------
-
--- k goals are seen
-abbrev pub Seen : (rows index words : List ℕ) → Mark → (count many k : ℕ) → Type 0
-Seen rows index words mark count many k = (k ≤ count) × (many ≤ k) × ((g : OpenRows rows index words mark count) → Opening g.gs many k)
-
-module _ {rows index words : List ℕ} {mark : Mark} {count many k id : ℕ} (h : Seen rows index words mark count many k) (l : k < count) (e : id ≡ cell 6 rows k 2)
-    (r : Bool) (o : OpenIs index id r) where
-  pub seen_more : {much : ℕ} → r ≡ true → much ≡ many + 1 → Seen rows index words mark count much (k + 1)
-  seen_more {much} t m = (
-    omega arith,
-    omega (arith, h.1),
-    λ g. subst (λ n. Opening g.gs n (k + 1)) (sym m) (opening_more g (h.2 g) l e r o t),
+  -- what is asked of row k
+  pub row_asked : (k : ℕ) → k < count → OpenRowAt rows t k
+  row_asked k l = (
+    g.good,
+    goals_long g.held,
+    omega (arith, g.held.few),
+    let z = made_length t.index.now t.words.now t.mark in omega (arith, (numbered k l).below),
   )
 
-  pub seen_skip : {much : ℕ} → r ≡ false → much ≡ many → Seen rows index words mark count much (k + 1)
-  seen_skip {much} t m = (
-    omega arith,
-    omega (arith, h.1),
-    λ g. subst (λ n. Opening g.gs n (k + 1)) (sym m) (opening_skip g (h.2 g) l e r o t),
-  )
+  pub rows_open : length (filter (row_open rows t) (range_with_len 0 count)) ≡ count_open g.gs
+  rows_open =
+      ap (λ (n : ℕ). length (filter (row_open rows t) (range_with_len 0 n))) (sym g.held.many)
+      ∙ numbers_open (row_open rows t) g.gs 0 (λ k l. ap (row_open rows t) (omega arith) ∙ ap is_open (numbered k (omega (arith, g.held.many))).tree)

@@ -16,7 +16,7 @@ use Rattle.terms.specs.Laws.Cells.{words_are, settled_is}
 use Rattle.state.specs.Filled.{filled_front}
 use Rattle.state.specs.FactLaws.{length_fact_cells, length_footing_cells}
 use Rattle.state.specs.declared.sizes.Sizes.{Sizes}
-use Rattle.state.specs.Stands.{trees_of, Leaves, stands_leaves}
+use Rattle.state.specs.Stands.{trees_of, Leaves, stands_leaves, leaves_laid}
 use Rattle.facts.specs.declared.Fact.{Fact}
 use Rattle.facts.specs.Table.{zeroed}
 use Rattle.running.specs.declared.stopped.Stopped.{Stopped}
@@ -24,7 +24,8 @@ use Rattle.running.specs.declared.finish.Report.{Report}
 use Rattle.running.specs.declared.finish.Refusal.{Refusal}
 use Rattle.running.specs.Course.{outcome_of, Over}
 use Rattle.running.specs.Finished.{Finishes, answer_of}
-use Rattle.running.specs.Lent.{Working, working, theory_front, board_front, TheoryBehind, WorkingBehind, fact_row, fact_foot, fact_rows, fact_feet, Mirrored}
+use Rattle.state.specs.Records.{fact_row, fact_foot, fact_rows, fact_feet}
+use Rattle.running.specs.Lent.{Working, working, theory_front, board_front, TheoryBehind, WorkingBehind, Mirrored}
 use Rattle.running.specs.ReadBack.{Read, Call, stands_read}
 use Rattle.running.specs.Between.{AllLong}
 use Rattle.running.specs.RecordLaws.{zeroed_rows, zeroed_feet}
@@ -137,10 +138,25 @@ module _ {theory goals proof : List ℕ} (U : TheoryLists) (Z : Working) {rows f
   leaves : Leaves (board_front Z rows feet) S
   leaves = stands_leaves o.stands (words_are o.stands.good)
 
-  -- Facts: ys when no form is left, gs afterwards, fs before
+  -- Facts: the cells of the named part; fs before, gs afterwards
+  abbrev rows_then : List Fact → List ℕ
+  rows_then fs = laid (filled (6 * FACTS) (fact_cells S.made (goal_entries S.goals) S.facts)) (fact_rows fs)
+
+  abbrev feet_then : List Fact → List ℕ
+  feet_then fs = laid (filled (4 * FACTS) (footing_cells S.facts)) (fact_feet fs)
+
+  -- the records are the rows, and what was behind them stays
+  module _ (fs gs : List Fact) where
+    rows_kept : fact_rows gs ≡ rows ++ drop (6 * FACTS) (fact_rows fs) → fact_rows gs ≡ rows_then fs
+    rows_kept e = e ∙ leaves_laid (6 * FACTS) (fact_cells S.made (goal_entries S.goals) S.facts) (fact_rows fs) leaves.facts
+
+    feet_kept : fact_feet gs ≡ feet ++ drop (4 * FACTS) (fact_feet fs) → fact_feet gs ≡ feet_then fs
+    feet_kept e = e ∙ leaves_laid (4 * FACTS) (footing_cells S.facts) (fact_feet fs) leaves.footings
+
+  -- ys when no form is left, made blank behind the facts
   module _ (fs : List Fact) {ys gs : List Fact} (h : Mirrored n.facts ys rows feet) (d : drop FACTS ys ≡ drop FACTS fs)
       (z : gs ≡ zeroed ys n.facts FACTS) where
-    rows_laid : fact_rows gs ≡ laid (filled (6 * FACTS) (fact_cells S.made (goal_entries S.goals) S.facts)) (fact_rows fs)
+    rows_laid : fact_rows gs ≡ rows_then fs
     rows_laid =
         let cells = fact_cells S.made (goal_entries S.goals) S.facts in
         let l : length cells ≡ 6 * n.facts =
@@ -150,7 +166,7 @@ module _ {theory goals proof : List ℕ} (U : TheoryLists) (Z : Working) {rows f
         zeroed_rows fs ys gs n.facts FACTS z d cells
         (h.same_rows ∙ front_cells (6 * FACTS) (6 * n.facts) cells rows leaves.facts l (omega arith)) (omega arith)
 
-    feet_laid : fact_feet gs ≡ laid (filled (4 * FACTS) (footing_cells S.facts)) (fact_feet fs)
+    feet_laid : fact_feet gs ≡ feet_then fs
     feet_laid =
         let cells = footing_cells S.facts in
         let l : length cells ≡ 4 * n.facts = omega (arith, length_footing_cells S.facts, o.stands.recorded.many) in
@@ -173,11 +189,10 @@ module _ {theory goals proof : List ℕ} (U : TheoryLists) (Z : Working) {rows f
         (ap length (settled_is o.stands.good) ∙ length_filled (4 * TERMS) (end_cells 0 (trees_of (board_front Z rows feet) m)))
 
   -- T, W, M, fs: the tables before
-  module _ {T : TheoryLists} {W : Working} {index M N : List ℕ} (fs : List Fact) {ys gs : List Fact} {r : Result Report Refusal}
-      (b : TheoryBehind T U) (w : WorkingBehind W Z)
-      (h : Mirrored n.facts ys rows feet) (d : drop FACTS ys ≡ drop FACTS fs)
+  module _ {T : TheoryLists} {W : Working} {index M N : List ℕ} (fs gs : List Fact) {r : Result Report Refusal}
+      (b : TheoryBehind T U) (w : WorkingBehind W Z) (h : fact_rows gs ≡ rows_then fs) (d : fact_feet gs ≡ feet_then fs)
       (i : index ≡ settled (take (4 * TERMS) Z.index) ++ drop (4 * TERMS) Z.index) (f : Finishes theory goals proof r (take GOALS N))
-      (k : drop GOALS N ≡ drop GOALS M) (z : gs ≡ zeroed ys n.facts FACTS) where
+      (k : drop GOALS N ≡ drop GOALS M) where
     laid_all : Laid (record { answer = (check theory goals proof).answer; state = S }) (tables_of T W M fs) (tables_of U (with_index Z index) N gs)
     laid_all =
         let x = tables_exact S.theory in
@@ -196,8 +211,8 @@ module _ {theory goals proof : List ℕ} (U : TheoryLists) (Z : Working) {rows f
           words = filled_part WORDS (word_cells S.made S.made) W.words Z.words leaves.words w.words;
           defs = filled_part (3 * DEFS) (def_cells S.made S.defs) W.defs Z.defs leaves.defs w.defs;
           goals = filled_part (6 * GOALS) (goal_cells S.made 0 S.goals) W.goals Z.goals leaves.goals w.goals;
-          facts = rows_laid fs h d z;
-          footings = feet_laid fs h d z;
+          facts = h;
+          footings = d;
           lists = filled_part ENTRIES (goal_list S.made S.goals ++ fact_list S.made S.facts) W.lists Z.lists leaves.lists w.lists;
           missing = record {
             named = missing_of (check theory goals proof).answer S;
@@ -219,16 +234,25 @@ module _ {theory goals proof : List ℕ} (U : TheoryLists) (Z : Working) {rows f
           read = λ l.
               subst (Read (tables_of U (with_index Z index) N gs)) state_is
               (stands_read (tables_of U (with_index Z index) N gs) o.stands (index_front i) refl refl
-              (laid_front_is (6 * FACTS) (fact_cells S.made (goal_entries S.goals) S.facts) (fact_rows fs) (rows_laid fs h d z) ∙ sym leaves.facts)
-              (laid_front_is (4 * FACTS) (footing_cells S.facts) (fact_feet fs) (feet_laid fs h d z) ∙ sym leaves.footings)
+              (laid_front_is (6 * FACTS) (fact_cells S.made (goal_entries S.goals) S.facts) (fact_rows fs) h ∙ sym leaves.facts)
+              (laid_front_is (4 * FACTS) (footing_cells S.facts) (fact_feet fs) d ∙ sym leaves.footings)
               refl);
         }
 
--- T, W, M, fs: the tables before; U, Z, ys when no form is left; Z with index, N, gs afterwards
+-- T, W, M, fs: the tables before; U, Z, rows, feet when no form is left; Z with index, N, gs afterwards. The records are the rows that the forms filled
+pub call_filled : {theory goals proof : List ℕ} {T U : TheoryLists} {W Z : Working} {rows feet index M N : List ℕ} (fs gs : List Fact) {n : Sizes}
+    {m : Mark} {e : Result ℕ Stopped} {S : State} {r : Result Report Refusal} → AllLong (length fs) T W M → TheoryBehind T U → WorkingBehind W Z →
+    Over theory goals proof (theory_front U) (board_front Z rows feet) n m e S →
+    fact_rows gs ≡ rows ++ drop (6 * FACTS) (fact_rows fs) → fact_feet gs ≡ feet ++ drop (4 * FACTS) (fact_feet fs) →
+    index ≡ settled (take (4 * TERMS) Z.index) ++ drop (4 * TERMS) Z.index → Finishes theory goals proof r (take GOALS N) → drop GOALS N ≡ drop GOALS M →
+    Call theory goals proof (tables_of T W M fs) (tables_of U (with_index Z index) N gs) (answer_of r)
+call_filled {U = U} {Z = Z} fs gs a b w o h d i f k = call_over U Z o fs gs b w (rows_kept U Z o fs gs h) (feet_kept U Z o fs gs d) i f k a
+
+-- The same where the records stand beside the rows: ys when no form is left, made blank behind the facts
 pub call_fit : {theory goals proof : List ℕ} {T U : TheoryLists} {W Z : Working} {rows feet index M N : List ℕ} (fs : List Fact) {ys gs : List Fact} {n : Sizes}
     {m : Mark} {e : Result ℕ Stopped} {S : State} {r : Result Report Refusal} → AllLong (length fs) T W M → TheoryBehind T U → WorkingBehind W Z →
     Over theory goals proof (theory_front U) (board_front Z rows feet) n m e S →
     Mirrored n.facts ys rows feet → drop FACTS ys ≡ drop FACTS fs → index ≡ settled (take (4 * TERMS) Z.index) ++ drop (4 * TERMS) Z.index →
     Finishes theory goals proof r (take GOALS N) → drop GOALS N ≡ drop GOALS M → gs ≡ zeroed ys n.facts FACTS →
     Call theory goals proof (tables_of T W M fs) (tables_of U (with_index Z index) N gs) (answer_of r)
-call_fit {U = U} {Z = Z} fs a b w o h d i f k z = call_over U Z o fs b w h d i f k z a
+call_fit {U = U} {Z = Z} fs {ys} {gs} a b w o h d i f k z = call_over U Z o fs gs b w (rows_laid U Z o fs h d z) (feet_laid U Z o fs h d z) i f k a

@@ -1,8 +1,6 @@
 -- What stands between two forms of the proof: all tables stand for a state, and what the definition makes of the rest, from that state on, is what it
 -- makes of the three texts. Tables have their named lengths here. Assumes nothing.
 use Rattle.std.specs.Prelude.{◌≡◌, List, ℕ, ◌≤◌, length, Result, Ok, Err}
-use Rattle.std.proofs.Common.{arith}
-use Rattle.rules.specs.Limits.{FACTS}
 use Rattle.rules.specs.Sexp.{read_from}
 use Rattle.rules.specs.Loop.{through}
 use Rattle.rules.specs.State.{State}
@@ -15,10 +13,6 @@ use Rattle.terms.specs.declared.store.Mark.{Mark}
 use Rattle.state.specs.declared.sizes.Sizes.{Sizes}
 use Rattle.state.specs.Stands.{Texts, texts, Board, Stands}
 use Rattle.running.specs.declared.stopped.Stopped.{Stopped}
-
--- no more facts than there are rows
-pub facts_room : {X : Texts} {T : TheoryLists} {B : Board} {n : Sizes} {m : Mark} {S : State} → Stands X T B n m S → n.facts ≤ FACTS
-facts_room h = omega (arith, h.recorded.many, h.recorded.rows.row12)
 
 -- a form may be left, from place p on, behind k forms
 pub record Underway (theory goals proof : List ℕ) (T : TheoryLists) (B : Board) (n : Sizes) (m : Mark) (p k : ℕ) (S : State) : Type 0 where

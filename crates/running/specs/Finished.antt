@@ -1,7 +1,8 @@
 -- The end of a check: what it is given, and the answer in the definition's words. Assumes nothing.
-use Rattle.std.specs.Prelude.{◌≡◌, not, true, false, List, [], ℕ, eqb, Result, Ok, Err}
+use Rattle.std.specs.Prelude.{◌≡◌, ◌*◌, ◌<◌, Bool, not, true, false, List, [], ℕ, eqb, length, Result, Ok, Err}
 use Rattle.rules.specs.Limits.{GOALS}
 use Rattle.rules.specs.Find.{every}
+use Rattle.rules.specs.Tree.{is_open}
 use Rattle.rules.specs.Store.{Made}
 use Rattle.rules.specs.State.{State, Goal}
 use Rattle.rules.specs.Check.{Answer, accepts, refuses, check}
@@ -14,7 +15,9 @@ use Rattle.questions.specs.Numbers.{number_of}
 use Rattle.kernel.specs.Parsed.{TheoryLists}
 use Rattle.terms.specs.declared.store.Mark.{Mark}
 use Rattle.terms.specs.declared.store.Terms.{Terms}
-use Rattle.terms.specs.Table.{made, Good}
+use Rattle.terms.specs.Table.{made, tree, Good}
+use Rattle.terms.specs.Lent.{GoodTerms}
+use Rattle.state.specs.Rows.{cell}
 use Rattle.state.specs.declared.sizes.Sizes.{Sizes}
 use Rattle.state.specs.Held.{GoalsHeld}
 use Rattle.state.specs.Stands.{Board}
@@ -46,6 +49,13 @@ pub record OpenRows (rows index words : List ℕ) (m : Mark) (count : ℕ) : Typ
 
 abbrev pub OpenRowsIn : List ℕ → Terms → ℕ → Type 0
 OpenRowsIn rows t count = OpenRows rows t.index.now t.words.now t.mark count
+
+-- row k of them, and whether its judgment has a variable
+abbrev pub OpenRowAt : List ℕ → Terms → ℕ → Type 0
+OpenRowAt rows t k = GoodTerms t × (length rows ≡ 6 * GOALS) × (k < GOALS) × (cell 6 rows k 2 < t.mark.terms)
+
+abbrev pub row_open : List ℕ → Terms → ℕ → Bool
+row_open rows t k = is_open (tree t.index.now t.words.now t.mark (cell 6 rows k 2))
 
 -- the list afterwards: it has entries where the question is 53
 abbrev pub ListedFor : Question → List ℕ → List ℕ → Type 0

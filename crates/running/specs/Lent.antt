@@ -1,10 +1,10 @@
 -- The tables as a caller lends them, of whatever length: their named parts, on which a check works, and what lies behind these and stays. And the records
 -- of facts beside the rows in which the forms read them. Assumes nothing.
-use Rattle.std.specs.Prelude.{◌≡◌, ℕ, ◌*◌, ◌≤◌, List, [], ◌∷◌, length, take, drop, get_or}
+use Rattle.std.specs.Prelude.{◌≡◌, ℕ, ◌*◌, ◌≤◌, List, length, take, drop}
 use Rattle.rules.specs.Limits.{SORTS, SYMBOLS, ARGUMENTS, RULES, RULEVARS, PATTERNS, VARIABLES, TERMS, WORDS, DEFS, GOALS, ENTRIES}
-use Rattle.rules.specs.TheoryTables.{rows as rows_of}
 use Rattle.kernel.specs.Parsed.{TheoryLists, theory_lists}
 use Rattle.state.specs.Stands.{Board, board}
+use Rattle.state.specs.Records.{fact_rows, fact_feet}
 use Rattle.facts.specs.declared.Fact.{Fact}
 
 -- The tables -----------------------------------------------------------------------------------------------------------------------
@@ -21,14 +21,17 @@ pub record Working : Type 0 where
 abbrev pub working : (vars index words defs goals lists : List ℕ) → Working
 working v i w d g l = record { vars = v; index = i; words = w; defs = d; goals = g; lists = l }
 
--- each is as long as named, or longer
-pub record LongWorking (W : Working) : Type 0 where
-  pub vars : 4 * VARIABLES ≤ length W.vars
-  pub index : 4 * TERMS ≤ length W.index
-  pub words : WORDS ≤ length W.words
-  pub defs : 3 * DEFS ≤ length W.defs
-  pub goals : 6 * GOALS ≤ length W.goals
-  pub lists : ENTRIES ≤ length W.lists
+-- tables of these lengths are as long as named, or longer
+pub record WorkingFits (a b c d e f : ℕ) : Type 0 where
+  pub vars : 4 * VARIABLES ≤ a
+  pub index : 4 * TERMS ≤ b
+  pub words : WORDS ≤ c
+  pub defs : 3 * DEFS ≤ d
+  pub goals : 6 * GOALS ≤ e
+  pub lists : ENTRIES ≤ f
+
+abbrev pub LongWorking : Working → Type 0
+LongWorking W = WorkingFits (length W.vars) (length W.index) (length W.words) (length W.defs) (length W.goals) (length W.lists)
 
 -- The named parts ------------------------------------------------------------------------------------------------------------------
 
@@ -63,20 +66,6 @@ pub record WorkingBehind (W Z : Working) : Type 0 where
   pub lists : drop ENTRIES Z.lists ≡ drop ENTRIES W.lists
 
 -- The records of facts -------------------------------------------------------------------------------------------------------------
-
--- a record as a row of six numbers, and its footing as four words
-abbrev pub fact_row : Fact → List ℕ
-fact_row f = f.judgment ∷ f.assumed ∷ f.first ∷ f.hyps ∷ f.premises ∷ f.general ∷ []
-
-abbrev pub fact_foot : Fact → List ℕ
-fact_foot f = get_or f.footing 0 0 ∷ get_or f.footing 1 0 ∷ get_or f.footing 2 0 ∷ get_or f.footing 3 0 ∷ []
-
--- all of them, one behind the other
-abbrev pub fact_rows : List Fact → List ℕ
-fact_rows fs = rows_of fact_row fs
-
-abbrev pub fact_feet : List Fact → List ℕ
-fact_feet fs = rows_of fact_foot fs
 
 -- the first n records are the first n rows
 pub record Mirrored (n : ℕ) (fs : List Fact) (rows feet : List ℕ) : Type 0 where

@@ -2,12 +2,11 @@
 -- forms when a fact is stored. Assumes nothing.
 use Rattle.std.specs.Prelude.{◌≡◌, length, Option, Some as some, None as nothing}
 use Rattle.std.proofs.Math.Path.{refl, sym, ap}
-use Rattle.std.proofs.Common.{◌∙◌, subst, arith, mul-zero, take-add}
-use Prim.Native.Nat.{ℕ, zero, suc, ◌+◌, ◌-◌, ◌*◌, ◌<◌}
+use Rattle.std.proofs.Common.{◌∙◌, subst, arith, take-add}
+use Prim.Native.Nat.{ℕ, suc, ◌+◌, ◌-◌, ◌*◌, ◌<◌}
 use mathlib.Core.List.{List, [], ◌∷◌, ◌++◌, append-nil}
 use Rattle.std.proofs.Math.Nat.{mul-suc}
-use Rattle.std.proofs.Math.ListN.{take, drop, set, replicate, replicate-append-replicate}
-use Rattle.std.proofs.Math.Seq.{take-nil, drop-nil, take-append-add, drop-append-add}
+use Rattle.std.proofs.Math.ListN.{take, drop, set, replicate}
 use Rattle.rules.specs.TheoryTables.{filled, rows}
 use Rattle.rules.specs.StateTables.{laid}
 use Rattle.rules.specs.Laws.Row.{append_assoc, filled_fits}
@@ -15,57 +14,26 @@ use Rattle.state.specs.Stands.{leaves_laid}
 use Rattle.facts.specs.declared.Fact.{Fact}
 use Rattle.facts.specs.Table.{blank, appended, zeroed}
 use Rattle.facts.specs.Laws.{take_appended, zeroed_is}
-use Rattle.running.specs.Lent.{fact_row, fact_foot, fact_rows, fact_feet, Mirrored}
+use Rattle.state.specs.Records.{rows_append, rows_drop, rows_blank, fact_row, fact_foot, fact_rows, fact_feet}
+use Rattle.running.specs.Lent.{Mirrored}
 use Rattle.running.specs.Between.{StoredAs}
 
 -- Rows of any kind -----------------------------------------------------------------------------------------------------------------
 
-module _ {A : Type 0} (f : A → List ℕ) where
-  pub rows_append : (xs ys : List A) → rows f (xs ++ ys) ≡ rows f xs ++ rows f ys
-  unfolding rows
-  rows_append [] ys = refl
-  rows_append (x ∷ xs) ys = ap (λ l. f x ++ l) (rows_append xs ys) ∙ sym (append_assoc (f x) (rows f xs) (rows f ys))
-
-  -- w cells each
-  module _ (w : ℕ) (h : (x : A) → length (f x) ≡ w) where
-    one_more_lem : (x : A) (k : ℕ) → length (f x) + w * k ≡ w * suc k
-    one_more_lem x k = omega (arith, h x, mul-suc w k)
-
-    pub rows_take : (k : ℕ) (xs : List A) → rows f (take k xs) ≡ take (w * k) (rows f xs)
-    unfolding rows
-    rows_take zero xs = ap (λ n. take n (rows f xs)) (sym (mul-zero w))
-    rows_take (suc k) [] = sym (take-nil (w * suc k))
-    rows_take (suc k) (x ∷ xs) =
-        ap (λ l. f x ++ l) (rows_take k xs) ∙ sym (take-append-add (f x) (rows f xs) (w * k)) ∙ ap (λ n. take n (f x ++ rows f xs)) (one_more_lem x k)
-
-    pub rows_drop : (k : ℕ) (xs : List A) → rows f (drop k xs) ≡ drop (w * k) (rows f xs)
-    unfolding rows
-    rows_drop zero xs = ap (λ n. drop n (rows f xs)) (sym (mul-zero w))
-    rows_drop (suc k) [] = sym (drop-nil (w * suc k))
-    rows_drop (suc k) (x ∷ xs) =
-        rows_drop k xs ∙ sym (drop-append-add (f x) (rows f xs) (w * k)) ∙ ap (λ n. drop n (f x ++ rows f xs)) (one_more_lem x k)
-
-    -- entries of zeros
-    module _ (b : A) (e : f b ≡ replicate w 0) where
-      pub rows_blank : (k : ℕ) → rows f (replicate k b) ≡ replicate (w * k) 0
-      unfolding rows
-      rows_blank zero = ap (λ n. replicate n 0) (sym (mul-zero w))
-      rows_blank (suc k) =
-          (λ i. e i ++ rows_blank k i) ∙ replicate-append-replicate w (w * k) 0
-          ∙ ap (λ n. replicate n 0) (let z : w + w * k ≡ w * suc k = omega (arith, mul-suc w k) in z)
-
-      -- the first n entries of ys, zero up to N, and what lies behind: ys then, zs before
-      pub rows_laid : (ys zs : List A) (n N : ℕ) (cells : List ℕ) → rows f (take n ys) ≡ cells → length cells + w * (N - n) ≡ w * N →
-          drop N ys ≡ drop N zs → rows f (take n ys ++ (replicate (N - n) b ++ drop N ys)) ≡ laid (filled (w * N) cells) (rows f zs)
-      rows_laid ys zs n N cells q l d =
-          let z : w * (N - n) ≡ w * N - length cells = omega (arith, l) in
-          let full : cells ++ replicate (w * (N - n)) 0 ≡ filled (w * N) cells =
-          ap (λ k. cells ++ replicate k 0) z ∙ sym (filled_fits (w * N) cells (omega (arith, l))) in
-          rows_append (take n ys) (replicate (N - n) b ++ drop N ys)
-          ∙ (λ i. q i ++ rows_append (replicate (N - n) b) (drop N ys) i)
-          ∙ (λ i. cells ++ (rows_blank (N - n) i ++ (ap (rows f) d ∙ rows_drop N zs) i))
-          ∙ sym (append_assoc cells (replicate (w * (N - n)) 0) (drop (w * N) (rows f zs)))
-          ∙ leaves_laid (w * N) cells (rows f zs) full
+-- w cells each; entries of zeros
+module _ {A : Type 0} (f : A → List ℕ) (w : ℕ) (h : (x : A) → length (f x) ≡ w) (b : A) (e : f b ≡ replicate w 0) where
+  -- the first n entries of ys, zero up to N, and what lies behind: ys then, zs before
+  pub rows_laid : (ys zs : List A) (n N : ℕ) (cells : List ℕ) → rows f (take n ys) ≡ cells → length cells + w * (N - n) ≡ w * N →
+      drop N ys ≡ drop N zs → rows f (take n ys ++ (replicate (N - n) b ++ drop N ys)) ≡ laid (filled (w * N) cells) (rows f zs)
+  rows_laid ys zs n N cells q l d =
+      let z : w * (N - n) ≡ w * N - length cells = omega (arith, l) in
+      let full : cells ++ replicate (w * (N - n)) 0 ≡ filled (w * N) cells =
+      ap (λ k. cells ++ replicate k 0) z ∙ sym (filled_fits (w * N) cells (omega (arith, l))) in
+      rows_append f (take n ys) (replicate (N - n) b ++ drop N ys)
+      ∙ (λ i. q i ++ rows_append f (replicate (N - n) b) (drop N ys) i)
+      ∙ (λ i. cells ++ (rows_blank f w h b e (N - n) i ++ (ap (rows f) d ∙ rows_drop f w h N zs) i))
+      ∙ sym (append_assoc cells (replicate (w * (N - n)) 0) (drop (w * N) (rows f zs)))
+      ∙ leaves_laid (w * N) cells (rows f zs) full
 
 -- Records of facts -----------------------------------------------------------------------------------------------------------------
 

@@ -7,7 +7,7 @@ ghost use Rattle.terms.specs.Table.{settled};
 ghost use Rattle.terms.specs.Lent.{SameTables};
 ghost use Rattle.state.specs.Stands.{tables_of};
 ghost use Rattle.running.specs.Stopped.{refusal_of};
-ghost use Rattle.running.specs.Finished.{unproved, GoalRows, OpenRowsIn, FinishGiven, Finishes, ListedFor};
+ghost use Rattle.running.specs.Finished.{unproved, GoalRows, OpenRowsIn, OpenRowAt, row_open, FinishGiven, Finishes, ListedFor};
 
 use crate::stopped::Stopped;
 use cells::clear;
@@ -67,18 +67,20 @@ fn list_missing(rows: &[u32], count: usize, missing: &mut [u32]) -> usize
     many
 }
 
+// Whether the judgment of goal k has a variable. A function of its own, which says of each k what it answers, as a proof about a filter asks.
+fn is_goal_open(rows: &[u32], terms: &Terms<'_>, k: usize) -> bool
+    requires { OpenRowAt rows.now terms.now k }
+    ensures { result ≡ row_open rows.now terms.now k }
+{
+    terms.is_open(goal_judgment(rows, k))
+}
+
 // The goals whose judgment has a variable.
 fn count_open(rows: &[u32], terms: &Terms<'_>, count: usize) -> usize
     requires { OpenRowsIn rows.now terms.now count }
     ensures { (g : OpenRowsIn rows.now terms.now count) → result ≡ count_open g.gs }
 {
-    let mut many = 0;
-    for k in 0..count {
-        if terms.is_open(goal_judgment(rows, k)) {
-            many += 1;
-        }
-    }
-    many
+    (0..count).filter(|k| is_goal_open(rows, terms, *k)).count()
 }
 
 // The refusal where the check has stopped. The list belongs to 53, whoever asks it.
@@ -119,11 +121,10 @@ pub fn finish(
     };
     let many = list_missing(board.rows, n.goals, missing);
     if many != 0 {
-        return Err(Refusal::from(Stopped {
-            text: Text::Proof,
-            refused: Question::MissingResults(many).behind(forms),
-        }));
+        let refused = Question::MissingResults(many).behind(forms);
+        return Err(Refusal::from(Stopped::left_in(Text::Proof, refused)));
     }
+    // The four counts are copied, since the report of the definition has all seven as its own: a `From` of `Counts` would have to make up the other three.
     Ok(Report {
         steps: n.facts,
         goals: n.goals,

@@ -1,5 +1,6 @@
-// Where a check stops, and its end: the answer, over tables of their named lengths.
+// The texts of a check, where it stops, and its end: the answer, over tables of their named lengths.
 #![tactic(auto)]
 
 pub mod finish;
 pub mod stopped;
+pub mod texts;

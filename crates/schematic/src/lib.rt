@@ -6,9 +6,9 @@ ghost use Rattle.rules.specs.Limits.{GOALS, FACTS};
 ghost use Rattle.kernel.specs.Parsed.{theory_lists, Exact};
 ghost use Rattle.kernel.specs.Tables.{lists_of, SameTables as SameTheory};
 ghost use Rattle.terms.specs.Lent.{SameTables};
+ghost use Rattle.state.specs.Boards.{SameBoard};
 ghost use Rattle.state.specs.Stands.{tables_of};
 ghost use Rattle.counts.specs.Sum.{none};
-ghost use Rattle.forms.specs.Boards.{SameBoard};
 ghost use Rattle.running.specs.Finished.{answer_of};
 ghost use Rattle.running.specs.Lent.{working, LongWorking};
 ghost use Rattle.running.specs.Between.{AllLong};
@@ -20,49 +20,43 @@ ghost use Rattle.schematic.specs.Ran.{Kept, RanIn, Ran, Whole, Filled, Called};
 
 use advancing::advance::{Scratch, next_form};
 use beginning::begin::{begin, given_of};
-use beginning::tables::{fits, theory_sizes};
-use beginning::texts::Texts;
+use beginning::lengths;
+use beginning::tables::fits;
 use counts::{Counts, add};
-use facts::{Fact, append_if, zero_behind};
+use facts::Fact;
 use kernel::tables::{Counts as Held, Tables};
 use questions::{Question, Text};
 use running::finish::{Refusal, Report, finish};
 use running::stopped::Stopped;
+use running::texts::Texts;
 use state::board::{Board, Given};
+use state::sizes::Sizes;
 use terms::store::{Mark, Store};
 
-// The forms of the proof, one after the other: how many there are. Their facts come into the records, what they count is added up.
+// The forms of the proof, one after the other: how many there are. What they count is added up.
 fn prove(
     given: &Given<'_>,
     board: &mut Board<'_>,
     store: &mut Store<'_>,
     scratch: &mut Scratch<'_>,
-    facts: &mut [Fact],
     counts: &mut Counts,
 ) -> Result<usize, Stopped>
-    requires kept { Kept given.now board.old store.old 0 0 facts.old counts.old }
+    requires kept { Kept given.now board.old store.old 0 0 counts.old }
     requires idle { IdleIn scratch.old }
     ensures same_tables { SameBoard board.old board.new × SameTables store.old store.new × SameScratch scratch.old scratch.new }
-    ensures ran { RanIn given.now board.new store.new result facts.new counts.new }
-    ensures facts_behind { drop FACTS facts.new ≡ drop FACTS facts.old }
+    ensures ran { RanIn given.now board.new store.new result counts.new }
     ensures idle_again { IdleIn scratch.new }
 {
     let mut at = 0;
     let mut forms = 0;
     // from form to form, which is no count; `next_form` fills lent tables, which an iterator would have to hold and lend on
     loop {
-        let n = board.n.facts;
         let step = match next_form(given, board, store, scratch, at) {
             Ok(Some(step)) => step,
             Ok(None) => return Ok(forms),
-            Err(question) => {
-                return Err(Stopped {
-                    text: Text::Proof,
-                    refused: question.behind(forms),
-                });
-            }
+            // by hand, as in `begin`: a closure for `map_err` would have to say what it answers
+            Err(question) => return Err(Stopped::left_in(Text::Proof, question.behind(forms))),
         };
-        append_if(facts, n, step.fact);
         add(counts, step.counts);
         forms += 1;
         at = step.end;
@@ -76,20 +70,17 @@ fn run(
     board: &mut Board<'_>,
     store: &mut Store<'_>,
     scratch: &mut Scratch<'_>,
-    facts: &mut [Fact],
     counts: &mut Counts,
 ) -> Result<usize, Stopped>
     requires opening { Opening (lists_of tables.old) (tables_of board.old store.old) scratch.old.cells.now }
-    requires idle { IdleIn scratch.old }
-    requires facts_len { (FACTS ≤ length facts.old) × (counts.old ≡ none) }
+    requires idle { IdleIn scratch.old × (counts.old ≡ none) }
     ensures same_tables { SameTheory tables.old tables.new × SameBoard board.old board.new × SameTables store.old store.new × SameScratch scratch.old scratch.new }
-    ensures ran { Ran texts.now.theory.now texts.now.goals.now texts.now.proof.now (lists_of tables.new) (tables_of board.new store.new) board.new.n store.new.mark result facts.new counts.new }
-    ensures facts_behind { drop FACTS facts.new ≡ drop FACTS facts.old }
+    ensures ran { Ran texts.now.theory.now texts.now.goals.now texts.now.proof.now (lists_of tables.new) (tables_of board.new store.new) board.new.n store.new.mark result counts.new }
 {
     let cells = &mut *scratch.cells;
     begin(texts, tables, board, store, cells)?;
     let given = given_of(texts.theory, texts.goals, texts.proof, tables);
-    prove(&given, board, store, scratch, facts, counts)
+    prove(&given, board, store, scratch, counts)
 }
 
 // The check over tables of their named lengths.
@@ -99,23 +90,19 @@ fn check_exact(
     board: &mut Board<'_>,
     store: &mut Store<'_>,
     scratch: &mut Scratch<'_>,
-    facts: &mut [Fact],
     missing: &mut [u32],
 ) -> Result<Report, Refusal>
     requires opening { Opening (lists_of tables.old) (tables_of board.old store.old) scratch.old.cells.now }
-    requires idle { IdleIn scratch.old }
-    requires facts_len { (FACTS ≤ length facts.old) × (length missing.old ≡ GOALS) }
+    requires idle { IdleIn scratch.old × (length missing.old ≡ GOALS) }
     ensures same_theory { SameTheory tables.old tables.new }
     ensures same_board { SameBoard board.old board.new }
     ensures same_store { SameTables store.old store.new }
     ensures same_scratch { SameScratch scratch.old scratch.new }
-    ensures whole { Whole texts.now.theory.now texts.now.goals.now texts.now.proof.now (lists_of tables.new) (tables_of board.new store.new) missing.new facts.old facts.new result }
+    ensures whole { Whole texts.now.theory.now texts.now.goals.now texts.now.proof.now (lists_of tables.new) (tables_of board.new store.new) missing.new result }
 {
     let mut counts = Counts::NONE;
-    let outcome = run(texts, tables, board, store, scratch, facts, &mut counts);
-    let answer = finish(outcome, counts, board, store, missing);
-    zero_behind(facts, board.n.facts, rules::FACTS);
-    answer
+    let outcome = run(texts, tables, board, store, scratch, &mut counts);
+    finish(outcome, counts, board, store, missing)
 }
 
 // The same in tables of the theory of their named lengths, and others that may be longer. These stand one by one: a struct of lent tables was tried, and the
@@ -139,46 +126,36 @@ fn check_long(
         (working vars.old index.old words.old defs.old rows.old lists.old) (working vars.new index.new words.new defs.new rows.new lists.new)
         missing.old missing.new facts.old facts.new result }
 {
-    let mut kept = [0u32; 6 * rules::FACTS];
-    let mut feet = [0u64; 4 * rules::FACTS];
     let mut cells = [0u32; rules::LENGTH];
     let mut ids = [0u32; induction::induct::IDS];
     let mut memo = [0u32; rules::TERMS];
-    let (vars, _) = vars.split_at_mut(4 * rules::VARIABLES);
-    let (index, _) = index.split_at_mut(4 * rules::TERMS);
-    let (words, _) = words.split_at_mut(rules::WORDS);
-    let (defs, _) = defs.split_at_mut(3 * rules::DEFS);
-    let (rows, _) = rows.split_at_mut(6 * rules::GOALS);
-    let (lists, _) = lists.split_at_mut(rules::ENTRIES);
-    let (missing, _) = missing.split_at_mut(rules::GOALS);
+    let (vars, _) = vars.split_at_mut(lengths::VARS);
+    let (index, _) = index.split_at_mut(lengths::INDEX);
+    let (words, _) = words.split_at_mut(lengths::WORDS);
+    let (defs, _) = defs.split_at_mut(lengths::DEFS);
+    let (rows, _) = rows.split_at_mut(lengths::ROWS);
+    let (facts, _) = facts.split_at_mut(rules::FACTS);
+    let (lists, _) = lists.split_at_mut(lengths::LISTS);
+    let (missing, _) = missing.split_at_mut(lengths::MISSING);
     let mut board = Board {
         vars,
         defs,
         rows,
-        facts: &mut kept,
-        footings: &mut feet,
+        facts,
         lists,
-        n: theory_sizes(Held::NONE),
+        n: Sizes::from(Held::NONE),
     };
     let mut store = Store {
         index,
         words,
-        mark: Mark { terms: 0, words: 0 },
+        mark: Mark::NONE,
     };
     let mut scratch = Scratch {
         cells: &mut cells,
         ids: &mut ids,
         memo: &mut memo,
     };
-    check_exact(
-        texts,
-        tables,
-        &mut board,
-        &mut store,
-        &mut scratch,
-        facts,
-        missing,
-    )
+    check_exact(texts, tables, &mut board, &mut store, &mut scratch, missing)
 }
 
 // The same in tables that are all long enough. They stand one by one: a struct of lent tables was tried, and the check loses what becomes of parts that
@@ -206,12 +183,12 @@ fn check_fit(
         (theory_lists sorts.new symbols.new inputs.new rules.new rulevars.new patterns.new) (working vars.new index.new words.new defs.new rows.new lists.new) missing.new facts.new
         result }
 {
-    let (sorts, _) = sorts.split_at_mut(2 * rules::SORTS);
-    let (symbols, _) = symbols.split_at_mut(4 * rules::SYMBOLS);
-    let (inputs, _) = inputs.split_at_mut(rules::ARGUMENTS * rules::SYMBOLS);
-    let (rules, _) = rules.split_at_mut(6 * rules::RULES);
-    let (rulevars, _) = rulevars.split_at_mut(3 * rules::RULEVARS * rules::RULES);
-    let (patterns, _) = patterns.split_at_mut(rules::PATTERNS);
+    let (sorts, _) = sorts.split_at_mut(lengths::SORTS);
+    let (symbols, _) = symbols.split_at_mut(lengths::SYMBOLS);
+    let (inputs, _) = inputs.split_at_mut(lengths::INPUTS);
+    let (rules, _) = rules.split_at_mut(lengths::RULES);
+    let (rulevars, _) = rulevars.split_at_mut(lengths::RULEVARS);
+    let (patterns, _) = patterns.split_at_mut(lengths::PATTERNS);
     let mut tables = Tables {
         sorts,
         symbols,

@@ -5,6 +5,7 @@ use Prim.Native.Nat.{ℕ, zero, suc, ◌+◌, ◌*◌, ◌≤◌, ◌<◌}
 use mathlib.Core.List.{List}
 use native.Mathlib.Omega.{arith}
 use lib.Dec.{eqb, ltb, leb}
+use Rattle.std.proofs.lemmas.Bool.{and_parts, not-true}
 use lib.ListN.{length, get_or, take, drop}
 use Rattle.std.proofs.Math.Decide.{dec_lt}
 use Rattle.std.proofs.Common.{get_or-take, get_or-drop, length-take-le, length-drop}
@@ -55,27 +56,19 @@ module _ {text : List ℕ} {start at : ℕ} (s : InComment text start at) where
 
 -- a block -------------------------------------------------------------------------------------------------------------------------
 
-both : (a b : Bool) → (a && b) ≡ true → (a ≡ true) × (b ≡ true)
-both true b e = (refl, e)
-both false b e = absurd (let z : ◌≡◌ {A = ℕ} 0 1 = cc in omega arith)
-
-is_not : (b : Bool) → not b ≡ true → b ≡ false
-is_not true e = sym e
-is_not false e = refl
-
 -- a byte above `)`, below 128 and not `;`, as a block's loop tests it
 tested : (x : ℕ) → ((ltb 41 x && leb x 127) && not (eqb x 59)) ≡ true → kind x ≡ letter
 tested x e =
-    let outer = both _ _ e in
-    let inner = both _ _ outer.0 in
-    above_letter x (ltb-true 41 x inner.0) (leb-true x 127 inner.1) (eqb-false x 59 (is_not _ outer.1))
+    let outer = and_parts _ _ e in
+    let inner = and_parts _ _ outer.0 in
+    above_letter x (ltb-true 41 x inner.0) (leb-true x 127 inner.1) (eqb-false x 59 (not-true _ outer.1))
 
 -- one letter more
 pub letters_more : (block : List ℕ) (i : ℕ) {b : Bool} → (b ≡ true → (k : ℕ) → k < i → kind (get_or block k 0) ≡ letter) →
     (b && ((ltb 41 (get_or block i 0) && leb (get_or block i 0) 127) && not (eqb (get_or block i 0) 59))) ≡ true →
     (k : ℕ) → k < i + 1 → kind (get_or block k 0) ≡ letter
 letters_more block i h e k l =
-    let s = both _ _ e in
+    let s = and_parts _ _ e in
     elim (dec_lt k i) [ yes p ↦ h s.0 k p | no n ↦ let z : k ≡ i = omega arith in rw z (tested (get_or block i 0) s.1) ]
 
 -- the bytes of a block at a place of a text

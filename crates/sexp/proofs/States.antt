@@ -21,6 +21,11 @@ use Rattle.sexp.specs.declared.sexp.Form.{Form}
 use Rattle.sexp.proofs.CellLaws.{stored, laid_length, zeros_behind, cleared}
 use Rattle.sexp.proofs.OpenLists.{layout, top, layout_open, layout_snoc, top_snoc, layout_length, top_room, top_low, around, counted, Stands, snoc_spelt}
 
+-- an atom, and what stands behind it
+pub atom_token : (text : List ℕ) (at : ℕ) → at < length text → kind (get_or text at 0) ≡ letter → (end : ℕ) → end ≡ at + length (letters (drop at text)) →
+    from text at ≡ word at (letters (drop at text)) ∷ from text end
+atom_token text at i l end we = place_letter text at i l ∙ ap (λ ts. word at (letters (drop at text)) ∷ ts) (place_behind text at ∙ rw we)
+
 -- where the loop stands: what the definition reads from here, with the lists that are open, is what it reads from the start
 pub record State (text : List ℕ) (start : ℕ) (w₀ w : List ℕ) (at used depth op : ℕ) : Type 0 where
   pub legible : Legible text w₀
@@ -209,9 +214,6 @@ module _ {text : List ℕ} {start : ℕ} {w₀ w : List ℕ} {at used depth op :
       within_text : end ≤ length text
       within_text = omega (arith, (letters_front (drop at text)).short, length-drop at text, we)
 
-      atom_token : from text at ≡ word at (letters (drop at text)) ∷ from text end
-      atom_token = place_letter text at i l ∙ ap (λ ts. word at (letters (drop at text)) ∷ ts) (place_behind text at ∙ rw we)
-
       pub word_on : (depth ≡ 0 → ⊥) → State text start w₀ (set w used (2 * at + 1)) end (used + 1) depth op
       unfolding encode
       word_on d = go s.st refl
@@ -231,7 +233,7 @@ module _ {text : List ℕ} {start : ℕ} {w₀ w : List ℕ} {at used depth op :
                 deep = s.deep ∙ ap length e;
                 most = s.most;
                 high = within_text;
-                same = s.same ∙ rw e (ap (forms (xs ∷ st)) atom_token ∙ forms_word xs st at _ _);
+                same = s.same ∙ rw e (ap (forms (xs ∷ st)) (atom_token text at i l end we) ∙ forms_word xs st at _ _);
                 few = omega (arith, s.few, longer);
                 stands = (snoc_spelt text xs y k.0 (record { inside = i; bytes = refl }), k.1);
               }
@@ -246,7 +248,7 @@ module _ {text : List ℕ} {start : ℕ} {w₀ w : List ℕ} {at used depth op :
               let bs : List ℕ = letters (drop at text) in
               let u : used ≡ 0 = s.uses ∙ ap (λ x. length (layout x)) e in
               finish (more (atom at bs) (at + length bs) (read_from text end))
-              (s.same ∙ rw e (ap (forms []) atom_token ∙ forms_bare at bs _))
+              (s.same ∙ rw e (ap (forms []) (atom_token text at i l end we) ∙ forms_bare at bs _))
               (rw (u, we))
               (stored [] w₀ w used (2 * at + 1) (s.laid ∙ rw e) (sym u) (omega (arith, s.few, s.legible.fits)) ∙ rw (u, zeros_behind w₀ 1 s.legible.clear (omega (arith, s.few, s.legible.fits))))
               (record { follows = rw we; on = omega (arith, s.few, longer, we); within = omega (arith, within_text, we); spelt = record { inside = i; bytes = refl }; few = omega (arith, s.few, longer, we) })

@@ -1,6 +1,6 @@
 -- The tables of the code are the definition's, and the first row that fits is the same. Assumes nothing.
-use Rattle.std.proofs.Common.{◌≡◌, refl, sym, ap, ◌∙◌, ℕ, ◌≤◌, ◌<◌, Bool, true, false, ◌&&◌, List, [], ◌∷◌, ◌+◌, suc, leb, length, get_or, drop, add-one, drop-cons, arith}
-use Rattle.std.proofs.Math.Bool.{and-false}
+use Rattle.std.proofs.Common.{◌≡◌, refl, sym, ap, ◌∙◌, ℕ, ◌≤◌, ◌<◌, Bool, true, false, List, [], ◌∷◌, ◌+◌, suc, leb, length, get_or, drop, add-one, drop-cons, arith}
+use Rattle.std.proofs.Math.Bool.{and-true, and-false}
 use Rattle.std.proofs.Math.Seq.{drop-length}
 use Rattle.std.specs.Prelude.{Option, Some as some, None as nothing}
 use borrow.Author.Tests.{le-leb, lt-leb}
@@ -15,10 +15,6 @@ use Rattle.sexp.specs.declared.tags.GoalForm.{GoalForm as GoalAnswer}
 use Rattle.sexp.specs.declared.tags.GoalForm.TheVariants.{Variable, Goal, GoalWith}
 use Rattle.sexp.specs.Never.{never}
 use Rattle.sexp.specs.TagTable.{row_of, row_in, tag_of_row, tag_answer, declaration_answer, goal_answer}
-
-and_yes : (a : Bool) → a && true ≡ a
-and_yes true = refl
-and_yes false = refl
 
 pub within_most : {o : Option ℕ} {m n : ℕ} → o ≡ some m → n ≤ m → within o n ≡ true
 unfolding within
@@ -39,7 +35,7 @@ module _ {T : Type 0} (r : Row T) (x : List ℕ) (n : ℕ) where
 
   pub by_name : within r.most n ≡ true → r.least ≤ n → same r.name x ≡ fits r x n
   unfolding fits
-  by_name w l = rw (w, le-leb r.least n l) (sym (and_yes (same r.name x)))
+  by_name w l = rw (w, le-leb r.least n l) (sym (and-true (same r.name x)))
 
 -- The search -------------------------------------------------------------------------------------------------------------------
 

@@ -13,7 +13,7 @@ use Rattle.sexp.specs.Items.{Items, Reaches, item_at, item_of, behind, place}
 use Rattle.sexp.specs.Each.{Walks, Over, here, over}
 use Rattle.sexp.specs.declared.items.Each.{Each}
 use Rattle.sexp.specs.declared.items.Item.{Item}
-use Rattle.sexp.specs.ItemLaws.{At, at_first, at_more, at_over, at_next, some_cells, More, item_here, behind_item, item_at_place, place_room, place_inside}
+use Rattle.sexp.specs.ItemLaws.{At, at_first, at_more, at_over, at_next, More, item_here, behind_item, item_at_place, place_room, place_inside}
 
 -- past the item at a place: r is the place behind it
 module _ {words : List ℕ} {at : ℕ} {left : Sexps} (k : At words at left) (m : More left) (r : ℕ) (e : r ≡ behind at (item_at words at)) where
@@ -25,12 +25,6 @@ module _ {words : List ℕ} {at : ℕ} {left : Sexps} (k : At words at left) (m 
 
   next : At words r m.others
   next = rw past (at_next first_here)
-
-  on : at < r
-  on = omega (arith, past, some_cells m.first)
-
-  within : r ≤ length words
-  within = next.high
 
 -- the items that a walk gives, up to its end, are as many as are left
 pub walked : {words : List ℕ} (s t u : Each) (xs : List (Bor (List ℕ))) (left : Sexps) → s.cells.now ≡ words → At words s.at left → Yields Walks s xs t → Over t u → length xs ≡ count left

@@ -5,8 +5,8 @@ use mathlib.Core.List.{List, [], ◌∷◌}
 use native.Mathlib.Omega.{arith}
 use lib.ListN.{length, drop, get_or, length-drop}
 use Rattle.rules.specs.Limits.{DEPTH}
-use Rattle.rules.specs.Lex.{kind, letter, word, between, letters}
-use Rattle.rules.specs.Laws.Lex.{kind_left, kind_right, place_left, place_right, place_letter, place_letters_more, place_behind, letters_front, at_end}
+use Rattle.rules.specs.Lex.{kind, letter, between, letters}
+use Rattle.rules.specs.Laws.Lex.{kind_left, kind_right, place_left, place_right, place_letters_more, letters_front, at_end}
 use Rattle.rules.specs.Sexp.{Sexp, Sexps, atom, list, nil, snoc, Text, ends, fails, more, forms, read}
 use Rattle.rules.specs.Laws.Sexp.{forms_opens, forms_deep, forms_stray, forms_closes, forms_closed, forms_word, forms_bare, forms_ends, forms_open_end}
 use Rattle.sexp.specs.Lexed.{from, Skipped}
@@ -15,7 +15,7 @@ use Rattle.questions.specs.declared.Question.{Question}
 use Rattle.questions.specs.declared.Question.TheVariants.{Brackets, Depth}
 use Rattle.questions.specs.declared.Refused.{Refused}
 use Rattle.sexp.specs.Whole.{EndsAs}
-use Rattle.sexp.proofs.States.{brackets}
+use Rattle.sexp.proofs.States.{brackets, atom_token}
 
 abbrev refusal : Question → ℕ → Result ℕ Refused
 refusal q n = Err (record { question = q; form = n })
@@ -125,9 +125,6 @@ module _ {text : List ℕ} {at depth n : ℕ} (t : Turning text at depth n) wher
       pub longer : (at < end) × (end ≤ length text)
       longer = (omega (arith, place_letters_more text at i l, we), omega (arith, (letters_front (drop at text)).short, length-drop at text, we))
 
-      atom_token : from text at ≡ word at (letters (drop at text)) ∷ from text end
-      atom_token = place_letter text at i l ∙ ap (λ ts. word at (letters (drop at text)) ∷ ts) (place_behind text at ∙ rw we)
-
       pub words : Turning text end depth n
       unfolding EndsAs
       words = go t.st refl
@@ -142,7 +139,7 @@ module _ {text : List ℕ} {at depth n : ℕ} (t : Turning text at depth n) wher
                 few = omega (arith, t.few, longer.0);
                 same =
                     let bs : List ℕ = letters (drop at text) in
-                    let r : forms t.st (from text at) ≡ more (atom at bs) (at + length bs) (forms [] (from text end)) = rw e (ap (forms []) atom_token ∙ forms_bare at bs _) in
+                    let r : forms t.st (from text at) ≡ more (atom at bs) (at + length bs) (forms [] (from text end)) = rw e (ap (forms []) (atom_token text at i l end we) ∙ forms_bare at bs _) in
                     reads _ r;
               }
           go (xs ∷ st) e =
@@ -154,6 +151,6 @@ module _ {text : List ℕ} {at depth n : ℕ} (t : Turning text at depth n) wher
                 few = omega (arith, t.few, longer.0);
                 same =
                     let y : Sexp = atom at (letters (drop at text)) in
-                    let r : forms t.st (from text at) ≡ forms (snoc xs y ∷ st) (from text end) = rw e (ap (forms (xs ∷ st)) atom_token ∙ forms_word xs st at _ _) in
+                    let r : forms t.st (from text at) ≡ forms (snoc xs y ∷ st) (from text end) = rw e (ap (forms (xs ∷ st)) (atom_token text at i l end we) ∙ forms_word xs st at _ _) in
                     reads _ r;
               }

@@ -73,13 +73,13 @@ pub rest_shorter : (cells : List ℕ) (next : ℕ) → 0 < next → next ≤ len
 rest_shorter cells next a b =
     omega (arith, length-take-le (length cells - next) (drop next cells) (omega (arith, length-drop next cells)), a, b)
 
-count_more : (x : Sexp) (xs ys : Sexps) → xs ≡ cons x ys → count xs ≡ suc (count ys)
+pub count_more : (x : Sexp) (ys xs : Sexps) → xs ≡ cons x ys → count xs ≡ suc (count ys)
 unfolding count
-count_more x xs ys e = ap count e
+count_more x ys xs e = ap count e
 
 module _ {text cells : List ℕ} {xs : Sexps} {item : Item} {next : ℕ} (f : ItemFirst text cells xs item next) where
   pub first_count : count xs ≡ suc (count f.ys)
-  first_count = count_more f.x xs f.ys f.is
+  first_count = count_more f.x f.ys xs f.is
 
   -- the items, the first apart
   pub holds_first : Holds text cells xs → Holds text cells (cons f.x f.ys)
@@ -145,4 +145,4 @@ module _ {text cells : List ℕ} {zs : Sexps} {item : Item} (h : Holds text cell
         }
 
 pub count_first : {text cells : List ℕ} {zs : Sexps} {p : ℕ} (f : AtomFirst text cells zs p) → count zs ≡ suc (count f.others)
-count_first {text} {zs = zs} {p} f = count_more (atom p (letters (drop p text))) zs f.others f.is
+count_first {text} {zs = zs} {p} f = count_more (atom p (letters (drop p text))) f.others zs f.is

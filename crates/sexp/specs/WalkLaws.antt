@@ -6,15 +6,13 @@ use Rattle.std.proofs.Math.Seq.{take-append_seam}
 use Rattle.rules.specs.Lex.{letters}
 use Rattle.rules.specs.Laws.Lex.{letters_front}
 use Rattle.rules.specs.Sexp.{Sexp, Sexps, atom, list, nil, cons, count, item, rest}
+use Rattle.sexp.specs.Never.{never}
 use Rattle.sexp.specs.Encode.{encode, encodes}
 use Rattle.sexp.specs.Spelt.{AtomAt, Spelt, Spells}
 use Rattle.sexp.specs.Items.{Holds, item_of, item_at, place}
 use Rattle.sexp.specs.ItemLaws.{At, at_first, at_more, at_over, at_room, at_next, More, item_here, item_at_place, at_place, some_cells}
 use Rattle.sexp.specs.declared.items.Item.{Item}
 use Rattle.sexp.specs.declared.items.Item.TheVariants.{Atom, List as Part}
-
-clash : {A : Type 0} → ◌≡◌ {A = ℕ} 0 1 → A
-clash z = absurd (omega arith)
 
 -- What an answer says of an item ----------------------------------------------------------------------------------------------
 
@@ -39,14 +37,14 @@ pub record Walk (text words : List ℕ) (at : ℕ) (left : Sexps) : Type 0 where
   pub spelt : Spells text left
 
 pub atom_is : (text : List ℕ) (at : ℕ) (x : Sexp) (p : ℕ) → Spelt text x → Atom p ≡ item_of at x → AtomIs text x p
-atom_is text at (list xs) p s e = clash cc
+atom_is text at (list xs) p s e = never cc
 atom_is text at (atom q bs) p s e =
     let h : q ≡ p = cc in
     record { bytes = bs; is = ap (λ n. atom n bs) h; stands = rw h at s }
 
 list_here : (text words : List ℕ) (at : ℕ) (x : Sexp) (ys : Sexps) (a b : ℕ) → At words at (cons x ys) → Spelt text x → Part a b ≡ item_of at x → ListIs text words x a b × (b ≡ at + length (encode x))
 unfolding encode
-list_here text words at (atom p bs) ys a b k s e = clash cc
+list_here text words at (atom p bs) ys a b k s e = never cc
 list_here text words at (list xs) ys a b k s e =
     let ea : a ≡ at + 1 = cc in
     let eb : b ≡ at + 1 + length (encodes xs) = cc in
@@ -66,7 +64,7 @@ list_here text words at (list xs) ys a b k s e =
 atom_next : (words : List ℕ) (at : ℕ) (x : Sexp) (ys : Sexps) → At words at (cons x ys) → (p : ℕ) → Atom p ≡ item_of at x → At words (at + 1) ys
 unfolding encode
 atom_next words at (atom q bs) ys k p e = at_next k
-atom_next words at (list xs) ys k p e = clash cc
+atom_next words at (list xs) ys k p e = never cc
 
 -- A loop over items ------------------------------------------------------------------------------------------------------------
 

@@ -1,3 +1,4 @@
 pub mod Stores
+pub mod Cells
 pub mod Named
 pub mod Placed

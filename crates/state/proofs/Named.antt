@@ -25,10 +25,6 @@ use Rattle.state.specs.VarLaws.{var_at, vars_long}
 use Rattle.state.specs.DefLaws.{def_at, def_term, defs_long}
 use Rattle.state.specs.GoalLaws.{goal_at, goals_long}
 
--- whether entries have these bytes for a name
-abbrev pub called : List ℕ → Name → Bool
-called name n = same n.bytes name
-
 module _ {A : Type 0} (name_of : A → Name) where
   first_names_lem : (p : Name → Bool) (xs : List A) (k : ℕ) → first p (map name_of xs) k ≡ first (λ x. p (name_of x)) xs k
   unfolding first

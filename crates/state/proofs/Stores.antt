@@ -1,6 +1,6 @@
 -- Rows that are written cell by cell or as a whole. Assumes nothing.
 use mathlib.Core.Path.{◌≡◌, refl, sym, ap, ◌∙◌}
-use Prim.Native.Nat.{ℕ, suc, ◌+◌, ◌-◌, ◌*◌, ◌≤◌}
+use Prim.Native.Nat.{ℕ, suc, ◌+◌, ◌-◌, ◌≤◌}
 use mathlib.Core.List.{List, [], ◌∷◌, ◌++◌, append-nil, append_assoc}
 use native.Mathlib.Omega.{arith}
 use native.Mathlib.Numerals.{add-one, add-two}
@@ -35,10 +35,6 @@ pub stored_part : (l part vs : List ℕ) (at n : ℕ) → part ≡ vs → n ≡ 
 stored_part l part vs at n e f h =
     put_mid-paste at n l part vs n e refl f ∙ paste_all l at vs n f ∙ ap (λ k. take at l ++ (vs ++ drop (at + k) l)) f
     ∙ sym (append_assoc (take at l) vs (drop (at + length vs) l)) ∙ sym (sets-eq vs l at h)
-
--- the fourth row of four words
-pub row4 : (l : List ℕ) (i : ℕ) → take (4 * i + 4 - 4 * i) (drop (4 * i) l) ≡ take 4 (drop (4 * i) l)
-row4 l i = ap (λ k. take k (drop (4 * i) l)) (let e : 4 * i + 4 - 4 * i ≡ 4 = omega arith in e)
 
 -- a tail that is written from its first cell on
 pub tail_sets : (l : List ℕ) (at : ℕ) (tail vs : List ℕ) → at + length vs ≤ length l → tail ≡ sets (take (length l - at) (drop at l)) 0 vs →

@@ -1,6 +1,6 @@
 -- The entries of all lists: which part of the table a goal's and a fact's entries are. Assumes nothing.
-use Rattle.std.specs.Prelude.{◌≡◌, refl, ℕ, zero, suc, ◌+◌, ◌-◌, ◌<◌, ◌≤◌, List, [], ◌∷◌, ◌++◌, length, get_or, take, drop, set}
-use Rattle.std.proofs.Common.{sym, ap, ◌∙◌, append_assoc, arith, add-one, length-append, length-take, length-drop, take_at, drop_at, drop-cons, get_or-take, get_or-drop}
+use Rattle.std.specs.Prelude.{◌≡◌, refl, ℕ, suc, ◌+◌, ◌-◌, ◌<◌, ◌≤◌, List, [], ◌∷◌, ◌++◌, length, get_or, take, drop, set}
+use Rattle.std.proofs.Common.{sym, ap, ◌∙◌, arith, add-one, length-append, length-take, length-drop, take_at, drop_at, drop-cons, get_or-take, get_or-drop}
 use Rattle.std.proofs.lemmas.List.Edits.{sets}
 use Rattle.std.proofs.lemmas.List.{set_comm}
 use Rattle.rules.specs.Store.{Made}
@@ -9,6 +9,7 @@ use Rattle.rules.specs.TheoryTables.{filled, rows}
 use Rattle.rules.specs.StateTables.{numbers, goal_list, fact_list}
 use Rattle.rules.specs.Laws.Row.{rows_snoc}
 use Rattle.cells.specs.declared.Span.{Span}
+use Rattle.kernel.specs.RuleRows.{rows_split}
 use Rattle.state.specs.Filled.{filled_part}
 use Rattle.state.specs.Numbered.{length_numbers}
 
@@ -47,14 +48,6 @@ module _ (N : ℕ) (xs front cells rest : List ℕ) (h : length xs ≤ N) (e : x
       let l : end - from ≡ length cells = omega arith in
       filled_part N xs h from (end - from) (omega (arith, span_in)) ∙ ap (λ l. take (end - from) (drop from l)) e
       ∙ ap (take (end - from)) (drop_at front (cells ++ rest) from (sym f)) ∙ take_at cells rest (end - from) (sym l)
-
-pub rows_split : {A : Type 0} (f : A → List ℕ) (xs : List A) (k : ℕ) (d : A) → k < length xs →
-    rows f xs ≡ rows f (take k xs) ++ (f (get_or xs k d) ++ rows f (drop (suc k) xs))
-unfolding rows
-rows_split f [] k d l = absurd (omega arith)
-rows_split f (x ∷ xs) zero d l = refl
-rows_split f (x ∷ xs) (suc k) d l =
-    ap (λ l. f x ++ l) (rows_split f xs k d (omega arith)) ∙ sym (append_assoc (f x) (rows f (take k xs)) (f (get_or xs k d) ++ rows f (drop (suc k) xs)))
 
 -- Goals and facts ------------------------------------------------------------------------------------------------------------------
 

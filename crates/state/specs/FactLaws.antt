@@ -26,7 +26,8 @@ use Rattle.state.specs.Filled.{filled_front}
 use Rattle.state.specs.Numbered.{Numbered, AllNumbered, numbered_at, each_numbered, sound_in, length_numbers}
 use Rattle.state.specs.RowCells.{fact_row, fact_rows_lem, fact_width, fact_places, footing_row, footing_rows, footing_width, running_snoc, running_cell, length_running, no_goal, no_fact}
 use Rattle.state.specs.RowTables.{Tabled, tabled_fits, tabled_long, tabled_at, entry_at}
-use Rattle.state.specs.Entries.{part, span_is, rows_split, fact_part, fact_list_split, length_goal_list, length_fact_list}
+use Rattle.kernel.specs.RuleRows.{rows_split}
+use Rattle.state.specs.Entries.{part, span_is, fact_part, fact_list_split, length_goal_list, length_fact_list}
 use Rattle.state.specs.GoalLaws.{GoalRow, goal_row_lem, bit_flag}
 use Rattle.state.specs.Footings.{footing_below, footing_holds}
 

@@ -2,20 +2,15 @@
 use Rattle.std.specs.Prelude.{◌≡◌, refl, ℕ, zero, suc, ◌+◌, ◌-◌, ◌<◌, ◌≤◌, List, [], ◌++◌, length, get_or, take, drop, set, replicate}
 use Rattle.std.proofs.Common.{sym, ap, ◌∙◌, append_assoc, append-nil, arith, length-append, length-drop, length-set, drop_of_length-le, take_at, drop_at, get_or-append-add}
 use Rattle.std.proofs.Math.Decide.{dec_lt}
-use Rattle.std.proofs.lemmas.List.{length-replicate, get_or-replicate, replicate-append-replicate, take-append-le, drop-append-le, set-append_left}
+use Rattle.std.proofs.lemmas.List.{length-replicate, replicate-append-replicate, take-append-le, drop-append-le, set-append_left}
 use Rattle.std.proofs.Math.ListN.{get_or-eq_default, get_or-append}
 use Rattle.std.proofs.lemmas.List.Edits.{sets, sets-eq}
 use Rattle.std.proofs.Math.Seq.{drop-append-add}
 use Rattle.rules.specs.TheoryTables.{filled}
 use Rattle.rules.specs.Laws.Row.{filled_fits}
+use Rattle.terms.specs.Laws.Zeros.{get_d_zeros}
 
 -- Zeros --------------------------------------------------------------------------------------------------------------------------
-
-pub zero_at : (n i : ℕ) → ◌≡◌ {A = ℕ} (get_or (replicate n 0) i 0) 0
-zero_at n i = elim (dec_lt i n) [
-  | yes p ↦ get_or-replicate n i 0 0 p
-  | no q ↦ get_or-eq_default (replicate n 0) 0 {n = i} (let z = length-replicate {A = ℕ} n 0 in omega arith)
-]
 
 pub drop_zeros : (k n : ℕ) → ◌≡◌ {A = List ℕ} (drop k (replicate n 0)) (replicate (n - k) 0)
 drop_zeros zero n = ap (λ m. replicate m 0) (let e : n ≡ n - 0 = omega arith in e)
@@ -36,7 +31,7 @@ module _ (N : ℕ) (xs : List ℕ) (h : length xs ≤ N) where
     | no q ↦
         let e : i ≡ length xs + (i - length xs) = omega arith in
         ap (λ j. get_or (xs ++ replicate (N - length xs) 0) j 0) e ∙ get_or-append-add xs (replicate (N - length xs) 0) (i - length xs) 0
-        ∙ zero_at (N - length xs) (i - length xs) ∙ sym (get_or-eq_default xs 0 {n = i} (omega arith))
+        ∙ get_d_zeros (N - length xs) (i - length xs) ∙ sym (get_or-eq_default xs 0 {n = i} (omega arith))
   ]
 
   -- a part of the front

@@ -1,7 +1,7 @@
 -- Footings: the four words of a fact's row stand for its set of rules, and the words of a set are the row's. Assumes nothing.
 use Rattle.std.specs.Prelude.{◌≡◌, refl, ℕ, zero, suc, ◌+◌, ◌-◌, ◌*◌, ◌/◌, ◌%◌, ◌^◌, ◌<◌, ◌≤◌, Bool, true, false, List, [], ◌∷◌, ◌++◌, eqb, length, get_or}
 use Rattle.std.proofs.Math.Path.{sym, ap}
-use Rattle.std.proofs.Common.{◌∙◌, subst, pow-suc, add-mul, mul_assoc, mul_comm, mul-one, one-mul, zero-mul, div-one, one-add, shr-shr, eq-eqb, ne_eqb}
+use Rattle.std.proofs.Common.{◌∙◌, subst, pow-suc, add-mul, mul_assoc, mul_comm, mul-one, one-mul, zero-mul, eq-eqb, ne_eqb}
 use native.Mathlib.Omega.{arith}
 use Rattle.std.proofs.Math.Decide.{dec_lt}
 use Rattle.std.proofs.Math.ListN.{get_or-eq_default}
@@ -14,20 +14,11 @@ use Rattle.rules.specs.Laws.Theory.{All, all_map}
 use Rattle.rules.specs.Laws.Set.{rising_split, rising_from_split, rising_all}
 use Rattle.rules.specs.Laws.Shape.{Footed}
 use Rattle.terms.specs.Sets.{digit, holds}
+use Rattle.terms.specs.Laws.Digits.{digit_zero, digit_suc, digit_of_zero}
 use Rattle.state.specs.RowCells.{footing_row, footing_width}
 use Rattle.state.specs.Members.{has_above, rises_rising}
 
 -- Digits ---------------------------------------------------------------------------------------------------------------------------
-
-lowest : (n : ℕ) → digit n 0 ≡ eqb (n % 2) 1
-lowest n = ap (λ (m : ℕ). eqb (m % 2) 1) (div-one n)
-
-next : (n k : ℕ) → digit n (suc k) ≡ digit (n / 2) k
-next n k = ap (λ (m : ℕ). eqb (m % 2) 1) (ap (λ (e : ℕ). n / 2 ^ e) (sym (one-add k)) ∙ sym (shr-shr n 1 k))
-
-of_zero : (k : ℕ) → digit 0 k ≡ false
-of_zero zero = refl
-of_zero (suc k) = next 0 k ∙ of_zero k
 
 -- the number whose digits are m members of a set, from k on
 unfoldable value : Set → ℕ → ℕ → ℕ
@@ -50,11 +41,11 @@ value_digit a k zero u l = absurd (omega arith)
 value_digit a k (suc m) zero l =
     let s = bit_small (a k) in
     let e : (bit (a k) + 2 * value a (suc k) m) % 2 ≡ bit (a k) = omega arith in
-    lowest (bit (a k) + 2 * value a (suc k) m) ∙ ap (λ n. eqb n 1) e ∙ bit_is (a k) ∙ ap a (let z : k ≡ k + 0 = omega arith in z)
+    digit_zero (bit (a k) + 2 * value a (suc k) m) ∙ ap (λ n. eqb n 1) e ∙ bit_is (a k) ∙ ap a (let z : k ≡ k + 0 = omega arith in z)
 value_digit a k (suc m) (suc u) l =
     let s = bit_small (a k) in
     let e : (bit (a k) + 2 * value a (suc k) m) / 2 ≡ value a (suc k) m = omega arith in
-    next (bit (a k) + 2 * value a (suc k) m) u ∙ ap (λ n. digit n u) e ∙ value_digit a (suc k) m u (omega arith)
+    digit_suc (bit (a k) + 2 * value a (suc k) m) u ∙ ap (λ n. digit n u) e ∙ value_digit a (suc k) m u (omega arith)
     ∙ ap a (let z : suc k + u ≡ k + suc u = omega arith in z)
 
 value_is : (a : Set) (k m x : ℕ) → x < 2 ^ m → ((u : ℕ) → u < m → a (k + u) ≡ digit x u) → value a k m ≡ x
@@ -63,9 +54,9 @@ value_is a k zero x l f = omega arith
 value_is a k (suc m) x l f =
     let p = pow-suc 2 m in
     let z : k + 0 ≡ k = omega arith in
-    let b : bit (a k) ≡ x % 2 = ap bit (ap a (sym z) ∙ f 0 (omega arith) ∙ lowest x) ∙ low_bit (x % 2) (omega arith) in
+    let b : bit (a k) ≡ x % 2 = ap bit (ap a (sym z) ∙ f 0 (omega arith) ∙ digit_zero x) ∙ low_bit (x % 2) (omega arith) in
     let t = value_is a (suc k) m (x / 2) (omega arith)
-    (λ u h. ap a (let z : suc k + u ≡ k + suc u = omega arith in z) ∙ f (suc u) (omega arith) ∙ next x u) in
+    (λ u h. ap a (let z : suc k + u ≡ k + suc u = omega arith in z) ∙ f (suc u) (omega arith) ∙ digit_suc x u) in
     omega arith
   where
     low_bit : (r : ℕ) → r < 2 → bit (eqb r 1) ≡ r
@@ -178,7 +169,7 @@ module _ {n : ℕ} (f : Fact) (few : n ≤ RULES) (h : Footed n f.footing) where
             ap (λ w. digit w (v % 64)) (row_word f (v / 64) l ∙ word_is (v / 64) l)
             ∙ value_digit (has f.footing) (64 * (v / 64)) 64 (v % 64) (omega arith) ∙ ap (has f.footing) z
         | no q ↦
-            ap (λ w. digit w (v % 64)) (get_or-eq_default (footing_row f) 0 {n = v / 64} (let w = footing_width f in omega arith)) ∙ of_zero (v % 64)
+            ap (λ w. digit w (v % 64)) (get_or-eq_default (footing_row f) 0 {n = v / 64} (let w = footing_width f in omega arith)) ∙ digit_of_zero (v % 64)
             ∙ sym (has_above f.footing RULES v footing_below (omega arith))
       ]
 

@@ -1,4 +1,5 @@
 pub mod Adding
+pub mod Boards
 pub mod DefLaws
 pub mod Entries
 pub mod FactLaws
@@ -12,6 +13,7 @@ pub mod Members
 pub mod Numbered
 pub mod Parts
 pub mod Recording
+pub mod Records
 pub mod RowCells
 pub mod RowTables
 pub mod Rows

@@ -7,6 +7,7 @@ use Rattle.rules.specs.Find.{Set, has, rising, rising_from}
 use Rattle.rules.specs.Laws.Theory.{All, both, all_map}
 use Rattle.rules.specs.Laws.Set.{rising_split, rising_from_none, rising_from_agree}
 use Rattle.rules.specs.Laws.Rising.{Rises, RisesFrom}
+use Rattle.terms.specs.Laws.Sets.{has_below}
 
 -- every member is below n
 abbrev pub Under : ℕ → Set → Type 0
@@ -87,11 +88,6 @@ unfolding rising
 rising_empty n a f = rising_from_none 0 n a (λ v l m. f v)
 
 -- A list that rises ----------------------------------------------------------------------------------------------------------------
-
-has_below : (xs : List ℕ) (j v : ℕ) → RisesFrom j xs → v < j → has xs v ≡ false
-unfolding has RisesFrom
-has_below [] j v h l = refl
-has_below (x ∷ xs) j v h l = rw (has, ne_eqb v x (λ e. omega (arith, h.0))) (has_below xs (suc x) v h.1 (omega (arith, h.0)))
 
 pub has_above : (xs : List ℕ) (n v : ℕ) → All (λ x. x < n) xs → n ≤ v → has xs v ≡ false
 unfolding has

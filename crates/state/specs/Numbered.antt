@@ -60,6 +60,7 @@ each_numbered {M} ts h = record { is = refl; below = numbers_below M ts h; trees
 
 -- Growth -----------------------------------------------------------------------------------------------------------------------------
 
+-- a private law of `rules` too, which stays as it is
 number_ahead : (m n : Made) (t : Tree) → In t m → number (m ++ n) t ≡ number m t
 unfolding In number
 number_ahead [] n t i = absurd i

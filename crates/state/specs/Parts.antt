@@ -87,6 +87,7 @@ module _ {K : Names} {n : Sizes} {M : Made} {S : State} (h : Spelling K n M S) w
 
 -- Entries of goals ------------------------------------------------------------------------------------------------------------------
 
+-- these two are private laws of `rules` too, which stays as it is
 goals_snoc : (gs : List Goal) (g : Goal) → goal_entries (gs ++ (g ∷ [])) ≡ goal_entries gs + count_trees g.hyps
 unfolding goal_entries
 goals_snoc [] g = omega arith

@@ -58,6 +58,7 @@ pub record Valid (M : Made) (S : State) : Type 0 where
 pub valid_of : {R : Records} {n : Sizes} {M : Made} {S : State} → Recorded R n M S → Valid M S
 valid_of h = record { rows = h.rows; trees = h.trees; shaped = h.shaped }
 
+-- a private law of `rules` too, which stays as it is
 pub entries_snoc : (fs : List Fact) (f : Fact) → all_entries (fs ++ (f ∷ [])) ≡ all_entries fs + fact_entries f
 unfolding all_entries
 entries_snoc [] f = omega arith

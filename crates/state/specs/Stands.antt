@@ -24,6 +24,7 @@ use Rattle.terms.specs.Table.{made, Good}
 use Rattle.state.specs.declared.board.Board.{Board as Lent}
 use Rattle.state.specs.declared.sizes.Sizes.{Sizes}
 use Rattle.state.specs.Held.{text_of, names, Spelling, GoalsHeld, records, Recorded, rule_lists, Ruled}
+use Rattle.state.specs.Records.{fact_rows, fact_feet}
 use Rattle.state.specs.Used.{sizes_of}
 use Rattle.state.specs.Filled.{filled_none}
 use Rattle.state.specs.Growth.{goals_on, spelling_on, recorded_on, spelling_made, recorded_made}
@@ -55,7 +56,8 @@ board v i w d g f b l = record { vars = v; index = i; words = w; defs = d; goals
 
 -- those that are lent, and the store's
 abbrev pub tables_of : Lent → Store → Board
-tables_of b s = board b.vars.now s.index.now s.words.now b.defs.now b.rows.now b.facts.now b.footings.now b.lists.now
+tables_of b s =
+    board b.vars.now s.index.now s.words.now b.defs.now b.rows.now (fact_rows b.facts.now) (fact_feet b.facts.now) b.lists.now
 
 -- the trees of the store
 abbrev pub trees_of : Board → Mark → Made
@@ -70,6 +72,10 @@ pub record Stands (X : Texts) (T : TheoryLists) (B : Board) (n : Sizes) (m : Mar
   pub recorded : Recorded (records B.facts B.footings B.lists) n (trees_of B m) S
   pub good : Good B.index B.words m
   pub store : trees_of B m ≡ S.made
+
+-- no more facts than there are rows
+pub facts_room : {X : Texts} {T : TheoryLists} {B : Board} {n : Sizes} {m : Mark} {S : State} → Stands X T B n m S → n.facts ≤ FACTS
+facts_room h = omega (arith, h.recorded.many, h.recorded.rows.row12)
 
 -- every cell by the state alone, in tables of their named lengths
 pub record Leaves (B : Board) (S : State) : Type 0 where
@@ -182,6 +188,7 @@ stands_proof {goals = goals} {text = text} {B = B} {n = n} {m = m} {S = S} proof
 
 -- The beginning --------------------------------------------------------------------------------------------------------------------
 
+-- a private law of `rules` too, which stays as it is
 pub nothing_made : (T : Theory) → Ready sound (begin T) []
 unfolding sound Distinct ClosedBehind words
 nothing_made T = record { good = record { distinct = tt; closed = tt; row8 = omega arith; row9 = omega arith }; defs = empty; goals = empty; facts = empty }

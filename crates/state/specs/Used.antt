@@ -1,7 +1,12 @@
--- How much of each table is used, with one part anew, and what a state uses. Assumes nothing.
+-- How much of each table is used: where there is nothing but a theory, with one part anew, and by a state. Assumes nothing.
 use Rattle.std.specs.Prelude.{ℕ, length}
 use Rattle.rules.specs.State.{State, entries}
+use Rattle.kernel.specs.declared.tables.Counts.{Counts}
 use Rattle.state.specs.declared.sizes.Sizes.{Sizes}
+
+-- what is used where there is nothing but a theory
+abbrev pub theory_sizes : Counts → Sizes
+theory_sizes c = record { sorts = c.sorts; symbols = c.symbols; rules = c.rules; vars = 0; defs = 0; goals = 0; facts = 0; entries = 0 }
 
 abbrev pub vars_now : Sizes → ℕ → Sizes
 vars_now n k = record {

@@ -1,5 +1,6 @@
 // The texts and tables of a check: what is given to it, and what it fills.
 use crate::sizes::Sizes;
+use facts::Fact;
 use kernel::rule_readers::Rules;
 
 // The text of the theory, that of the goals, and that in which the form stands; and the tables of the theory.
@@ -14,14 +15,13 @@ pub struct Given<'a> {
     pub rules: Rules<'a>,
 }
 
-// Variables, abbreviations, goals, facts with their footings, the entries of lists; and how much of each table is used.
+// Variables, abbreviations, goals, facts, the entries of lists; and how much of each table is used.
 #[derive(Drop)]
 pub struct Board<'a> {
     pub vars: &'a mut [u32],
     pub defs: &'a mut [u32],
     pub rows: &'a mut [u32],
-    pub facts: &'a mut [u32],
-    pub footings: &'a mut [u64],
+    pub facts: &'a mut [Fact],
     pub lists: &'a mut [u32],
     pub n: Sizes,
 }

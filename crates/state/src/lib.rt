@@ -4,7 +4,7 @@
 
 pub mod board;
 pub mod defs;
-pub mod facts;
 pub mod goals;
+pub mod recorded;
 pub mod sizes;
 pub mod vars;

@@ -12,15 +12,6 @@ use Rattle.rules.specs.Laws.Row.{rows_snoc, length_rows}
 use Rattle.facts.specs.declared.Fact.{Fact}
 use Rattle.facts.specs.Table.{blank}
 
--- four words, one by one
-pub four_words : (l : List ℕ) → length l ≡ 4 → l ≡ get_or l 0 0 ∷ get_or l 1 0 ∷ get_or l 2 0 ∷ get_or l 3 0 ∷ []
-four_words [] e = absurd (omega (arith, e))
-four_words (a ∷ []) e = absurd (omega (arith, e))
-four_words (a ∷ b ∷ []) e = absurd (omega (arith, e))
-four_words (a ∷ b ∷ c ∷ []) e = absurd (omega (arith, e))
-four_words (a ∷ b ∷ c ∷ d ∷ []) e = refl
-four_words (a ∷ b ∷ c ∷ d ∷ f ∷ l) e = absurd (omega (arith, e))
-
 at_zero : (f : Fact → List ℕ) (w : ℕ) (fs : List Fact) (cells : List ℕ) → cells ≡ rows f (take 0 fs) ++ drop (w * 0) cells
 unfolding rows
 at_zero f w fs cells = ap (λ k. drop k cells) (sym (mul-zero w))

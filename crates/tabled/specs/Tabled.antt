@@ -6,7 +6,8 @@ use Rattle.facts.specs.declared.Fact.{Fact}
 use Rattle.facts.specs.Table.{blank}
 use Rattle.running.specs.declared.finish.Report.{Report}
 use Rattle.running.specs.declared.finish.Refusal.{Refusal}
-use Rattle.running.specs.Lent.{Working, fact_rows, fact_feet}
+use Rattle.state.specs.Records.{fact_rows, fact_feet}
+use Rattle.running.specs.Lent.{Working}
 use Rattle.running.specs.Finished.{answer_of}
 use Rattle.running.specs.ReadBack.{Call}
 use Rattle.running.specs.Checking.{tables_of}

@@ -5,9 +5,10 @@ ghost use Rattle.running.specs.Finished.{answer_of};
 
 use crate::tables::Tables;
 use running::finish::{Refusal, Report};
+use running::texts::Texts;
 
-pub fn answer(theory: &[u8], goals: &[u8], proof: &[u8]) -> Result<Report, Refusal>
-    ensures { answer_of result ≡ (check theory.now goals.now proof.now).answer }
+pub fn answer(texts: &Texts<'_>) -> Result<Report, Refusal>
+    ensures { answer_of result ≡ (check texts.now.theory.now texts.now.goals.now texts.now.proof.now).answer }
 {
-    Tables::new().check(theory, goals, proof)
+    Tables::new().check(texts)
 }

@@ -5,7 +5,8 @@ ghost use Rattle.std.specs.Prelude.{◌≡◌, ◌++◌, ◌+◌, ◌*◌, ◌�
 ghost use Rattle.std.proofs.lemmas.List.Edits.{sets};
 ghost use Rattle.rules.specs.Limits.{FACTS};
 ghost use Rattle.kernel.specs.Parsed.{theory_lists};
-ghost use Rattle.running.specs.Lent.{working, fact_row, fact_foot, fact_rows, fact_feet};
+ghost use Rattle.state.specs.Records.{fact_row, fact_foot, fact_rows, fact_feet};
+ghost use Rattle.running.specs.Lent.{working};
 ghost use Rattle.tabled.specs.Tabled.{Tabled};
 
 pub mod answers;
@@ -15,18 +16,16 @@ pub mod told;
 use facts::Fact;
 use running::finish::{Refusal, Report};
 
-// The row of fact i: the record's six numbers into cells, one by one, since an array of them to copy would name each as well.
+// The row of fact i. It is copied: behind `as_chunks_mut` nothing is known of what was written.
 fn put_row(rows: &mut [u32], i: usize, f: Fact)
     requires { 6 * i + 6 ≤ length rows.old }
     ensures { rows.new ≡ sets rows.old (6 * i) (fact_row f) }
 {
     let at = 6 * i;
-    rows[at] = f.judgment;
-    rows[at + 1] = f.assumed;
-    rows[at + 2] = f.first;
-    rows[at + 3] = f.hyps;
-    rows[at + 4] = f.premises;
-    rows[at + 5] = f.general;
+    let end = at + 6;
+    rows[at..end].copy_from_slice(&[
+        f.judgment, f.assumed, f.first, f.hyps, f.premises, f.general,
+    ]);
 }
 
 // The footing of fact i.

@@ -1,43 +1,36 @@
 // The answer to three texts and what is recorded with it, written line by line.
 use crate::tables::Tables;
 use printing::line::Line;
+use running::texts::Texts;
 use std::alloc::Global;
 use std::io;
 use std::io::Write;
 
-pub fn tell<W: Write>(
-    alloc: Global,
-    theory: &[u8],
-    goals: &[u8],
-    proof: &[u8],
-    out: &mut W,
-) -> io::Result<()> {
+pub fn tell<W: Write>(alloc: Global, texts: &Texts<'_>, out: &mut W) -> io::Result<()> {
     let mut tables = Tables::new();
-    let answer = tables.check(theory, goals, proof);
+    let answer = tables.check(texts);
     writeln!(out, "{}", Line(answer))?;
-    tables
-        .view(theory, goals, proof, answer)
-        .write_recorded(alloc, out)
+    tables.view(*texts, answer).write_recorded(alloc, out)
 }
 
 #[cfg(test)]
 mod tests {
     use super::tell;
+    use running::texts::Texts;
     use std::io;
 
-    const THEORY: &[u8] =
-        b"(sort Pass) (ctor first () Pass) (ctor renew (Pass) Pass) (pred Child (Pass)) \
-        (rule c0 () (Child first)) (rule c1 ((Child ?p)) (Child (renew ?p)))";
-
-    const GOALS: &[u8] = b"(var x Pass) (goal g (Child x))";
-
-    const PROOF: &[u8] = b"(var y Pass) (step 0 c0 ()) (hyp 1 (Child y)) (step 2 c1 (1)) \
-        (induct 3 x (Child x) ((0) (2 y))) (result g 3)";
+    const TEXTS: Texts<'static> = Texts {
+        theory: b"(sort Pass) (ctor first () Pass) (ctor renew (Pass) Pass) (pred Child (Pass)) \
+            (rule c0 () (Child first)) (rule c1 ((Child ?p)) (Child (renew ?p)))",
+        goals: b"(var x Pass) (goal g (Child x))",
+        proof: b"(var y Pass) (step 0 c0 ()) (hyp 1 (Child y)) (step 2 c1 (1)) \
+            (induct 3 x (Child x) ((0) (2 y))) (result g 3)",
+    };
 
     #[test]
     fn tells_facts(rt: HostRuntime) -> io::Result<()> {
         let mut out = Vec::new(rt.alloc());
-        tell(rt.alloc(), THEORY, GOALS, PROOF, &mut out)?;
+        tell(rt.alloc(), &TEXTS, &mut out)?;
         let said = str::from_utf8(&out).unwrap_or("");
         let mut lines = said.lines();
         assert_eq!(rt; lines.next(), Some("(accepted 4 1 1 1 1 0 0)"));

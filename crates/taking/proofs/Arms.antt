@@ -1,4 +1,5 @@
 -- The arms of `goal_items` and `form_items`: what they answer, from what the form of the tag answers. Assumes nothing.
+use Rattle.state.specs.Records.{fact_feet}
 use mathlib.Core.Path.{◌≡◌, refl, sym, ap, ◌∙◌, subst}
 use mathlib.Core.List.{List}
 use Prim.Native.Nat.{ℕ, ◌+◌, ◌≤◌}
@@ -21,6 +22,7 @@ use Rattle.terms.specs.declared.store.Store.{Store}
 use Rattle.state.specs.declared.board.Given.{Given}
 use Rattle.state.specs.declared.board.Board.{Board}
 use Rattle.terms.specs.Table.{made}
+use Rattle.state.specs.Boards.{OnlyVars, OnlyDefs, OnlyRows, OnlyGoals, OnlyHyps, OnlyFacts, OnlyFactsAndVars}
 use Rattle.state.specs.Held.{text_of, GoalsHeld}
 use Rattle.state.specs.FactLaws.{entries_fit}
 use Rattle.counts.specs.Sum.{none}
@@ -31,7 +33,7 @@ use Rattle.forms.specs.Moved.{MovesIn, LeftIn}
 use Rattle.forms.specs.Next.{OwnIndex, NextAs}
 use Rattle.forms.specs.Laws.Making.{makes_none}
 use Rattle.forms.specs.Laws.Nexts.{stands_own, Numbers, steps, hyps, rule_hyps, inducts, inducts_with, applies, inverts, perform_next, perform_not}
-use Rattle.forms.specs.Boards.{AddsGoalIn, OnlyVars, OnlyDefs, OnlyRows, OnlyGoals, OnlyHyps, OnlyFacts, OnlyFactsAndVars}
+use Rattle.forms.specs.Boards.{AddsGoalIn}
 use Rattle.forms.specs.Declares.{VarAs, DefAs}
 use Rattle.forms.specs.Assumed.{AssumedAs}
 use Rattle.forms.specs.Results.{ResultedAs}
@@ -202,7 +204,7 @@ module _ {g : Given} {b : Board} {s : Store} {cells : List ℕ} (i : ItemsIn g b
       go (Ok u) z = entered_taken g b c s t i.stands (way_act w i.xs i.S) o z
       go (Err q) z = entered_left g b c s t i.stands (way_act w i.xs i.S) o q z
 
-  pub assumed_tried : (K : Out State (Unit {0})) (r : Result (Unit {0}) Question) → OnlyHyps b c → AssumedAs b c b.footings.now s t i.S K r →
+  pub assumed_tried : (K : Out State (Unit {0})) (r : Result (Unit {0}) Question) → OnlyHyps b c → AssumedAs b c (fact_feet b.facts.now) s t i.S K r →
       TriedIn g b c s t i.S K (result_and r (Ok one_hypothesis))
   assumed_tried K r o a = counting g b c s t i.S K one_hypothesis r
       (λ u e. assumed_taken g b c s t i.stands K r o a e) (λ q e. assumed_left g b c s t i.stands K r o a e)
@@ -316,4 +318,4 @@ module _ {g : Given} {b : Board} {s : Store} {cells : List ℕ} (i : GoalItemsIn
     -- where no entry of a list has changed either
     pub posed_row : (r : Result (Unit {0}) Question) → OnlyRows b c → AimedAs g b c s t i.items.S (goal a i.items.xs i.items.S) r →
         GoalTriedIn g b c s t i.items.S (goal a i.items.xs i.items.S) r
-    posed_row r o w = posed_goal r (o.0, o.1, o.2, o.3) w
+    posed_row r o w = posed_goal r (o.0, o.1, o.2) w

@@ -1,24 +1,21 @@
 -- The tag of a form: how many items it asks for, what `tag_of` answers, and what the definition makes of a form by its tag. Assumes nothing.
 use mathlib.Core.Path.{◌≡◌, refl, sym, ap, ◌∙◌}
-use Prim.Native.Nat.{ℕ, ◌≤◌, ◌<◌}
+use Prim.Native.Nat.{ℕ, ◌≤◌}
 use mathlib.Core.Bool.{Bool, true, false, ◌&&◌}
 use Rattle.std.specs.Prelude.{Option, Some as some, None as nothing}
-use mathlib.Core.List.{List, [], ◌∷◌, append-nil}
+use mathlib.Core.List.{List, [], ◌∷◌}
 use native.Mathlib.Omega.{arith}
 use lib.Dec.{leb}
-use lib.ListN.{length}
 use borrow.Author.Tests.{leb-true}
 use Rattle.rules.specs.Out.{refuse, then, found}
-use Rattle.rules.specs.Sexp.{Sexp, Sexps, atom, list, nil, cons, count, item, name, items}
+use Rattle.rules.specs.Sexp.{Sexp, Sexps, atom, list, count, item, name, items}
 use Rattle.rules.specs.Tags.{Tag, a_var, a_def, a_step, a_hyp, a_rule_hyp, an_induct, an_induct_with, an_apply, an_invert, a_result, GoalForm, a_variable, a_goal, a_goal_with, Row, proof_tags, goal_tags, within, fits, tag_in, proof_tag, goal_form}
 use Rattle.rules.specs.Text.{same}
 use Rattle.rules.specs.State.{State}
 use Rattle.rules.specs.Forms.{goal, take_goal, perform, take_form}
 use Rattle.sexp.specs.Never.{never}
-use Rattle.sexp.specs.Encode.{encode}
-use Rattle.sexp.specs.Items.{Holds, item_at}
-use Rattle.sexp.specs.ItemLaws.{some_cells}
-use Rattle.sexp.specs.WalkLaws.{ListIs, walk_start, walk_atom, walk_list}
+use Rattle.sexp.specs.Items.{item_at}
+use Rattle.sexp.specs.WalkLaws.{walk_start, walk_atom}
 use Rattle.sexp.specs.TagTable.{goal_answer, tag_answer}
 use Rattle.sexp.specs.declared.items.Item.{Item}
 use Rattle.sexp.specs.declared.items.Item.TheVariants.{Atom, List as Part}
@@ -28,6 +25,7 @@ use Rattle.sexp.specs.declared.tags.GoalForm.{GoalForm as GoalAnswer}
 use Rattle.sexp.specs.declared.tags.GoalForm.TheVariants.{Variable, Goal, GoalWith}
 use Rattle.kernel.specs.Parsed.{Formed}
 use Rattle.taking.specs.Tagged.{headed, tagged, chosen}
+use Rattle.kernel.proofs.Tagged.{alone, form_list}
 
 -- So many items --------------------------------------------------------------------------------------------------------------------
 
@@ -195,26 +193,16 @@ module _ {A R : Type 0} (f : List ℕ → ℕ → Option A) (ans : Option A → 
 
 -- The cells of a form --------------------------------------------------------------------------------------------------------------
 
-pub form_some : {text cells : List ℕ} {x : Sexp} → Formed text cells x → 0 < length cells
-form_some {x = x} k = omega (arith, ap length k.encoded, some_cells x)
-
 module _ {text cells : List ℕ} {x : Sexp} (k : Formed text cells x) {r : Item} (e : r ≡ item_at cells 0) where
-  alone : Holds text cells (cons x nil)
-  unfolding encode
-  alone = record { cells = k.encoded ∙ sym (append-nil (encode x)); spelt = (k.spelt, tt) }
-
   pub goal_atom_lem : {p : ℕ} → r ≡ Atom p → (S : State) → take_goal x S ≡ refuse 20 0 S
-  goal_atom_lem {p} f S = let a = walk_atom (walk_start alone) e f in ap (λ y. take_goal y S) a.is ∙ take_goal_atom p a.bytes S
+  goal_atom_lem {p} f S = let a = walk_atom (walk_start (alone k e)) e f in ap (λ y. take_goal y S) a.is ∙ take_goal_atom p a.bytes S
 
   pub form_atom_lem : {p : ℕ} → r ≡ Atom p → (S : State) → take_form x S ≡ refuse 30 0 S
-  form_atom_lem {p} f S = let a = walk_atom (walk_start alone) e f in ap (λ y. take_form y S) a.is ∙ take_form_atom p a.bytes S
+  form_atom_lem {p} f S = let a = walk_atom (walk_start (alone k e)) e f in ap (λ y. take_form y S) a.is ∙ take_form_atom p a.bytes S
 
   module _ {a b : ℕ} (f : r ≡ Part a b) where
-    pub form_list : ListIs text cells x a b
-    form_list = walk_list (walk_start alone) e f
+    pub goal_takes : (S : State) → take_goal x S ≡ chosen 20 goal (tagged goal_form (form_list k e f).items) (form_list k e f).items S
+    goal_takes S = ap (λ y. take_goal y S) (form_list k e f).is ∙ take_goal_list (form_list k e f).items S
 
-    pub goal_takes : (S : State) → take_goal x S ≡ chosen 20 goal (tagged goal_form form_list.items) form_list.items S
-    goal_takes S = ap (λ y. take_goal y S) form_list.is ∙ take_goal_list form_list.items S
-
-    pub form_takes : (S : State) → take_form x S ≡ chosen 30 perform (tagged proof_tag form_list.items) form_list.items S
-    form_takes S = ap (λ y. take_form y S) form_list.is ∙ take_form_list form_list.items S
+    pub form_takes : (S : State) → take_form x S ≡ chosen 30 perform (tagged proof_tag (form_list k e f).items) (form_list k e f).items S
+    form_takes S = ap (λ y. take_form y S) (form_list k e f).is ∙ take_form_list (form_list k e f).items S

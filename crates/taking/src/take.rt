@@ -4,7 +4,7 @@ ghost use Rattle.std.specs.Prelude.{◌≡◌};
 ghost use Rattle.rules.specs.Tags.{goal_form, proof_tag};
 ghost use Rattle.rules.specs.Forms.{next, goal, take_goal, perform, take_form};
 ghost use Rattle.terms.specs.Lent.{SameTables};
-ghost use Rattle.forms.specs.Boards.{SameBoard};
+ghost use Rattle.state.specs.Boards.{SameBoard};
 ghost use Rattle.forms.specs.Next.{OwnIndex};
 ghost use Rattle.entering.specs.Entered.{Spare};
 ghost use Rattle.taking.specs.Tagged.{tagged, chosen};

@@ -15,10 +15,9 @@ use running::finish::{Refusal, Report};
 fn put(out: &mut [u64], eight: &[u64; 8])
     ensures { out.new ≡ laid_eight (ltb (length out.old) 8) eight.now out.old }
 {
-    if out.len() < 8 {
-        return;
+    if let Some(front) = out.first_chunk_mut::<8>() {
+        *front = *eight;
     }
-    out[..8].copy_from_slice(eight);
 }
 
 // The answer in eight numbers.

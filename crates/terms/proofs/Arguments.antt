@@ -11,7 +11,7 @@ use Rattle.terms.specs.Laws.Terms.{node_rise, node_inside}
 abbrev pub behind : List ℕ → List ℕ
 behind N = take (length N - 1) (drop 1 N)
 
-behind_cons : (x : ℕ) (R : List ℕ) → behind (x ∷ R) ≡ R
+pub behind_cons : (x : ℕ) (R : List ℕ) → behind (x ∷ R) ≡ R
 behind_cons x R = let e : length (x ∷ R) - 1 ≡ length R = omega arith in ap (λ (k : ℕ). take k R) e ∙ take-length R
 
 module _ (I W : List ℕ) (m : Mark) (id : ℕ) (g : Good I W m) (h : id < m.terms) (N : List ℕ) (n : N ≡ node_at I W id) where

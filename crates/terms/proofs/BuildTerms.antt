@@ -29,7 +29,8 @@ use Rattle.terms.specs.Laws.Tables.{length_trees, tree_app}
 use Rattle.terms.specs.Laws.Growth.{grown_refl, grown_trans, grown_tree}
 use Rattle.terms.specs.Laws.Bound.{bound_grown}
 use Rattle.terms.proofs.Matches.{stands_var, stands_app, reads_in, reads_var}
-use Rattle.terms.proofs.Builds.{onto, onto_snoc, onto_agree, build_none, build_some, Remaining, remaining_begins, remaining_reads}
+use Rattle.terms.specs.Laws.Below.{ahead, ahead_snoc}
+use Rattle.terms.proofs.Builds.{ahead_agree, build_none, build_some, Remaining, remaining_begins, remaining_reads}
 use Rattle.terms.proofs.Builds.{remaining_on, remaining_stops, remaining_ends}
 
 -- A variable -------------------------------------------------------------------------------------------------------------------------
@@ -181,17 +182,17 @@ module _ (S P I W : List ℕ) (m : Mark) (B : List ℕ) (at c count : ℕ) (J X 
           let d = length-set w (1 + k) n in
           run_snoc (set w (1 + k) n) 1 k (omega arith) ∙ (λ i. run_old i ++ (get_or-set_same w (1 + k) n 0 (omega arith) i ∷ []))
 
-      agree : (ts : Trees) → onto (made J X new) (run w 1 k) (more (get_or (made L Y k') n (var 0)) ts) ≡ onto (made L Y k') (run (set w (1 + k) n) 1 (k + 1)) ts
+      agree : (ts : Trees) → ahead (made J X new) (run w 1 k) (more (get_or (made L Y k') n (var 0)) ts) ≡ ahead (made L Y k') (run (set w (1 + k) n) 1 (k + 1)) ts
       agree ts =
           let l = q.long in
           let z = q.few in
           let u = q.upto in
           let d = run_length w 1 k (omega arith) in
-          onto_agree (made J X new) (made L Y k') new.terms (run w 1 k) _
+          ahead_agree (made J X new) (made L Y k') new.terms (run w 1 k) _
           (λ j p. let t = run_at w 1 k j (omega arith) in let s = q.args j (omega arith) in omega arith)
           (λ i h. sym (grown_tree of_next.grown i h))
-          ∙ sym (onto_snoc (made L Y k') (run w 1 k) n ts)
-          ∙ ap (λ (xs : List ℕ). onto (made L Y k') xs ts) (sym run_new)
+          ∙ sym (ahead_snoc (made L Y k') (run w 1 k) n ts)
+          ∙ ap (λ (xs : List ℕ). ahead (made L Y k') xs ts) (sym run_new)
 
       pub building_on : Building S P I W m B at c count L Y (set w (1 + k) n) k' next (k + 1)
       building_on =
@@ -219,9 +220,6 @@ module _ (S P I W : List ℕ) (m : Mark) (B : List ℕ) (at c count : ℕ) (J X 
                 (λ p' st'. (ap (λ (x : Bound). build p' x (made J X new)) same_bound ∙ (built p' st').makes, (built p' st').after))
                 (run (set w (1 + k) n) 1 (k + 1)) agree;
           }
-
-  pub node_count : count + 1 ≡ length (take (count + 1) w)
-  node_count = let l = q.long in let f = q.few in sym (length-take-le (count + 1) w (omega arith))
 
   -- The node -----------------------------------------------------------------------------------------------------------------------
 

@@ -1,6 +1,6 @@
 -- Building a tree from a pattern in words: a variable's tree, the loop over the arguments, and the node at the end. Assumes nothing.
 use mathlib.Core.Path.{◌≡◌, refl, sym, ap, ◌∙◌, subst}
-use mathlib.Core.List.{List, [], ◌∷◌, ◌++◌}
+use mathlib.Core.List.{List, [], ◌∷◌}
 use Prim.Native.Nat.{ℕ, suc, ◌+◌, ◌-◌, ◌≤◌, ◌<◌, suc-le-suc}
 use native.Mathlib.Omega.{arith}
 use native.Mathlib.Nat.{zero-lt-suc}
@@ -12,34 +12,16 @@ use Rattle.rules.specs.Store.{Made, keep}
 use Rattle.rules.specs.Match.{Bound, build, builds}
 use Rattle.terms.specs.Table.{args_of}
 use Rattle.terms.specs.Patterns.{arity, Stands, Standing, PatternAt, tree_in, bound_of}
+use Rattle.rules.specs.Laws.Out.{then_then}
+use Rattle.terms.specs.Laws.Below.{ahead, ahead_none}
 use Rattle.terms.proofs.Matches.{stands_app}
-
-then_then : {S A B C : Type 0} (K : Out S A) (g : A → S → Out S B) (f : B → S → Out S C) → then (then K g) f ≡ then K (λ a s. then (g a s) f)
-unfolding then
-then_then (ok a s) g f = refl
-then_then (refuse n d s) g f = refl
 
 -- Trees before others ------------------------------------------------------------------------------------------------------------
 
--- the trees numbered xs, then ts
-unfoldable pub onto : Made → List ℕ → Trees → Trees
-onto M [] ts = ts
-onto M (x ∷ xs) ts = more (get_or M x (var 0)) (onto M xs ts)
-
-pub onto_none : (M : Made) (xs : List ℕ) → onto M xs none ≡ args_of M xs
-unfolding onto args_of
-onto_none M [] = refl
-onto_none M (x ∷ xs) = ap (more (get_or M x (var 0))) (onto_none M xs)
-
-pub onto_snoc : (M : Made) (xs : List ℕ) (x : ℕ) (ts : Trees) → onto M (xs ++ (x ∷ [])) ts ≡ onto M xs (more (get_or M x (var 0)) ts)
-unfolding onto
-onto_snoc M [] x ts = refl
-onto_snoc M (y ∷ xs) x ts = ap (more (get_or M y (var 0))) (onto_snoc M xs x ts)
-
-pub onto_agree : (M N : Made) (k : ℕ) (xs : List ℕ) (ts : Trees) → ((j : ℕ) → j < length xs → get_or xs j 0 < k) → ((i : ℕ) → i < k → get_or M i (var 0) ≡ get_or N i (var 0)) → onto M xs ts ≡ onto N xs ts
-unfolding onto
-onto_agree M N k [] ts b e = refl
-onto_agree M N k (x ∷ xs) ts b e = λ i. more (e x (b 0 (zero-lt-suc (length xs))) i) (onto_agree M N k xs ts (λ j l. b (suc j) (suc-le-suc l)) e i)
+pub ahead_agree : (M N : Made) (k : ℕ) (xs : List ℕ) (ts : Trees) → ((j : ℕ) → j < length xs → get_or xs j 0 < k) → ((i : ℕ) → i < k → get_or M i (var 0) ≡ get_or N i (var 0)) → ahead M xs ts ≡ ahead N xs ts
+unfolding ahead
+ahead_agree M N k [] ts b e = refl
+ahead_agree M N k (x ∷ xs) ts b e = λ i. more (e x (b 0 (zero-lt-suc (length xs))) i) (ahead_agree M N k xs ts (λ j l. b (suc j) (suc-le-suc l)) e i)
 
 -- Variables ----------------------------------------------------------------------------------------------------------------------
 
@@ -59,11 +41,11 @@ pub record Remaining (S P : List ℕ) (b : Bound) (K : Out Made Tree) (behind c 
   pub stands : Standing S P place patterns
   pub counted : count_trees patterns + k ≡ count
   pub ends : place + sizes patterns ≡ behind
-  pub left : K ≡ then (builds patterns b M) (λ ts s. keep (app c (onto M xs ts)) s)
+  pub left : K ≡ then (builds patterns b M) (λ ts s. keep (app c (ahead M xs ts)) s)
 
 pub remaining_begins : (S P : List ℕ) (b : Bound) (M : Made) (at : ℕ) (p : Tree) → Stands S P at p → get_or P at 0 < SYMBOLS
     → Remaining S P b (build p b M) (at + size p) (get_or P at 0) (arity S (get_or P at 0)) M (at + 1) 0 []
-unfolding build onto size
+unfolding build ahead size
 remaining_begins S P b M at p st l =
     let a = stands_app S P at p st l in
     let c = a.count in
@@ -86,12 +68,12 @@ module _ (S P : List ℕ) (b : Bound) (K : Out Made Tree) (behind c count : ℕ)
       go (more p ps) s e = record { tree = p; stands = s.0 }
 
   pub remaining_on : k < count → (t : Tree) (N : Made) (next : ℕ) → ((p : Tree) → Stands S P place p → (build p b M ≡ ok t N) × (next ≡ place + size p))
-      → (ys : List ℕ) → ((ts : Trees) → onto M xs (more t ts) ≡ onto N ys ts) → Remaining S P b K behind c count N next (k + 1) ys
+      → (ys : List ℕ) → ((ts : Trees) → ahead M xs (more t ts) ≡ ahead N ys ts) → Remaining S P b K behind c count N next (k + 1) ys
   unfolding Stands count_trees size build then
   remaining_on h t N next f ys agree = go q.patterns q.stands q.counted q.ends q.left
     where
       go : (ps : Trees) → Standing S P place ps → count_trees ps + k ≡ count → place + sizes ps ≡ behind
-          → K ≡ then (builds ps b M) (λ ts s. keep (app c (onto M xs ts)) s) → Remaining S P b K behind c count N next (k + 1) ys
+          → K ≡ then (builds ps b M) (λ ts s. keep (app c (ahead M xs ts)) s) → Remaining S P b K behind c count N next (k + 1) ys
       go none s e d l = absurd (omega arith)
       go (more p ps) s e d l =
           let a = f p s.0 in
@@ -103,8 +85,8 @@ module _ (S P : List ℕ) (b : Bound) (K : Out Made Tree) (behind c count : ℕ)
             ends = omega arith;
             left =
                 l
-                ∙ ap (λ (J : Out Made Tree). then (then J (λ t s. then (builds ps b s) (λ ts n. ok (more t ts) n))) (λ ts s. keep (app c (onto M xs ts)) s)) a.0
-                ∙ then_then (builds ps b N) (λ ts n. ok (more t ts) n) (λ ts s. keep (app c (onto M xs ts)) s)
+                ∙ ap (λ (J : Out Made Tree). then (then J (λ t s. then (builds ps b s) (λ ts n. ok (more t ts) n))) (λ ts s. keep (app c (ahead M xs ts)) s)) a.0
+                ∙ then_then (builds ps b N) (λ ts n. ok (more t ts) n) (λ ts s. keep (app c (ahead M xs ts)) s)
                 ∙ ap (λ (F : Trees → Trees). then (builds ps b N) (λ ts s. keep (app c (F ts)) s)) (λ i ts. agree ts i);
           }
 
@@ -112,16 +94,16 @@ module _ (S P : List ℕ) (b : Bound) (K : Out Made Tree) (behind c count : ℕ)
   unfolding Stands count_trees build then
   remaining_stops h n d N f = go q.patterns q.stands q.counted q.left
     where
-      go : (ps : Trees) → Standing S P place ps → count_trees ps + k ≡ count → K ≡ then (builds ps b M) (λ ts s. keep (app c (onto M xs ts)) s) → K ≡ refuse n d N
+      go : (ps : Trees) → Standing S P place ps → count_trees ps + k ≡ count → K ≡ then (builds ps b M) (λ ts s. keep (app c (ahead M xs ts)) s) → K ≡ refuse n d N
       go none s e l = absurd (omega arith)
       go (more p ps) s e l =
-          l ∙ ap (λ (J : Out Made Tree). then (then J (λ t s. then (builds ps b s) (λ ts n. ok (more t ts) n))) (λ ts s. keep (app c (onto M xs ts)) s)) (f p s.0)
+          l ∙ ap (λ (J : Out Made Tree). then (then J (λ t s. then (builds ps b s) (λ ts n. ok (more t ts) n))) (λ ts s. keep (app c (ahead M xs ts)) s)) (f p s.0)
 
   pub remaining_ends : count ≤ k → (K ≡ keep (app c (args_of M xs)) M) × (place ≡ behind)
   unfolding count_trees size build then
   remaining_ends h = go q.patterns q.counted q.ends q.left
     where
-      go : (ps : Trees) → count_trees ps + k ≡ count → place + sizes ps ≡ behind → K ≡ then (builds ps b M) (λ ts s. keep (app c (onto M xs ts)) s)
+      go : (ps : Trees) → count_trees ps + k ≡ count → place + sizes ps ≡ behind → K ≡ then (builds ps b M) (λ ts s. keep (app c (ahead M xs ts)) s)
           → (K ≡ keep (app c (args_of M xs)) M) × (place ≡ behind)
-      go none e d l = (l ∙ ap (λ (ts : Trees). keep (app c ts) M) (onto_none M xs), omega arith)
+      go none e d l = (l ∙ ap (λ (ts : Trees). keep (app c ts) M) (ahead_none M xs), omega arith)
       go (more p ps) e d l = absurd (omega arith)

@@ -12,7 +12,7 @@ use Rattle.rules.specs.Store.{Made, number}
 use Rattle.rules.specs.Laws.Store.{stored_true, stored_false, number_le}
 use Rattle.terms.specs.declared.store.Mark.{Mark}
 use Rattle.terms.specs.Table.{CHAINS, HEADS, node_at, tree_at, made, hash, bucket, latest, Shaped, Good}
-use Rattle.terms.specs.Node.{seek, Held}
+use Rattle.terms.specs.Node.{seek}
 use Rattle.terms.specs.Laws.Chains.{hash_small, latest_le, latest_key, latest_skip}
 use Rattle.terms.specs.Laws.Tables.{length_trees, number_here, number_nowhere}
 
@@ -64,12 +64,6 @@ seeking_begins I W m w b g s e =
 module _ (I W : List ℕ) (m : Mark) (w : List ℕ) (at : ℕ) (q : Seeking I W m w at) (ne : at ≡ 0 → ⊥) where
   pub seeking_in : at - 1 < m.terms
   seeking_in = let a = q.in_terms in omega arith
-
-  pub seeking_chain : CHAINS + (at - 1) < length I
-  seeking_chain = let a = seeking_in in let b = q.good.room in let d = q.good.index in omega arith
-
-  pub seeking_held : Held I W (at - 1)
-  seeking_held = record { mark = m; good = q.good; there = seeking_in }
 
   pub seeking_hit : node_at I W (at - 1) ≡ w → some (at - 1) ≡ seek (made I W m) (tree_at (made I W m) w)
   seeking_hit e =

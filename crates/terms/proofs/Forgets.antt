@@ -5,57 +5,21 @@ use mathlib.Core.List.{List, ◌++◌}
 use Prim.Native.Nat.{ℕ, zero, suc, ◌+◌, ◌-◌, ◌≤◌, ◌<◌}
 use native.Mathlib.Omega.{arith}
 use native.Mathlib.Decide.{ℕ_discrete, dec_lt}
-use lib.ListN.{length, get_or, set, take, drop, replicate, length-set, length-append, length-drop, length-replicate, get_or-append}
-use lib.Seq.{get_or-set_same, get_or-set_other, get_or-take, get_or-drop, get_or-append-add, length-take-le}
+use lib.ListN.{length, get_or, take, drop, replicate, length-append, length-drop, length-replicate, get_or-append}
+use lib.Seq.{get_or-take, get_or-drop, get_or-append-add, length-take-le}
 use Rattle.rules.specs.Limits.{TERMS}
 use Rattle.rules.specs.Tree.{Tree, var, is_open}
 use Rattle.rules.specs.Store.{Made}
 use Rattle.rules.specs.Laws.Store.{Apart}
 use Rattle.terms.specs.declared.store.Mark.{Mark}
 use Rattle.terms.specs.Table.{CHAINS, FLAGS, HEADS, INDEX, BUCKETS, run, start, node_at, trees, hash, bucket, latest, flag, Shaped, Good, Same}
-use Rattle.terms.specs.Table.{Part, Back}
-use Rattle.terms.specs.Node.{Unlinked, Held}
+use Rattle.terms.specs.Table.{Back}
+use Rattle.terms.specs.Node.{Unlinked}
 use borrow.Rule.Slice.PartMut.{put_mid}
 use Rattle.terms.specs.Laws.Runs.{run_same, run_length}
 use Rattle.terms.specs.Laws.Chains.{hash_small, latest_agree, latest_other}
+use Rattle.terms.specs.Laws.Zeros.{get_d_zeros}
 use Rattle.terms.specs.Laws.Tables.{rising, length_trees, get_d_trees, trees_same}
-
--- The index ------------------------------------------------------------------------------------------------------------------------
-
-module _ (I : List ℕ) (n b : ℕ) (h : (length I ≡ INDEX) × (n < TERMS) × (b < BUCKETS)) where
-  abbrev one : List ℕ
-  one = set I (HEADS + b) (get_or I (CHAINS + n) 0)
-
-  abbrev two : List ℕ
-  two = set one (CHAINS + n) 0
-
-  abbrev three : List ℕ
-  three = set two (FLAGS + n) 0
-
-  pub longs : (length one ≡ INDEX) × (length two ≡ INDEX) × (length three ≡ INDEX)
-  longs =
-      let a : length one ≡ INDEX = length-set I (HEADS + b) (get_or I (CHAINS + n) 0) ∙ h.0 in
-      let c : length two ≡ INDEX = length-set one (CHAINS + n) 0 ∙ a in
-      (a, c, length-set two (FLAGS + n) 0 ∙ c)
-
-  pub unlinked : Unlinked I (set three n 0) n b
-  unlinked =
-      let l = longs in
-      let a = l.0 in
-      let c = l.1 in
-      let d = l.2 in
-      let e = h.0 in
-      record {
-        long = length-set three n 0 ∙ l.2 ∙ sym h.0;
-        end = get_or-set_same three n 0 0 (omega arith);
-        chain = get_or-set_other three n (CHAINS + n) 0 0 (λ q. omega arith) ∙ get_or-set_other two (FLAGS + n) (CHAINS + n) 0 0 (λ q. omega arith)
-            ∙ get_or-set_same one (CHAINS + n) 0 0 (omega arith);
-        flag = get_or-set_other three n (FLAGS + n) 0 0 (λ q. omega arith) ∙ get_or-set_same two (FLAGS + n) 0 0 (omega arith);
-        head = get_or-set_other three n (HEADS + b) 0 0 (λ q. omega arith) ∙ get_or-set_other two (FLAGS + n) (HEADS + b) 0 0 (λ q. omega arith)
-            ∙ get_or-set_other one (CHAINS + n) (HEADS + b) 0 0 (λ q. omega arith) ∙ get_or-set_same I (HEADS + b) (get_or I (CHAINS + n) 0) 0 (omega arith);
-        other = λ j p q r s. get_or-set_other three n j 0 0 p ∙ get_or-set_other two (FLAGS + n) j 0 0 r ∙ get_or-set_other one (CHAINS + n) j 0 0 q
-            ∙ get_or-set_other I (HEADS + b) j (get_or I (CHAINS + n) 0) 0 s;
-      }
 
 -- The words ------------------------------------------------------------------------------------------------------------------------
 
@@ -65,11 +29,6 @@ pub record Wiped (W X : List ℕ) (s e : ℕ) : Type 0 where
   pub before : (i : ℕ) → i < s → get_or X i 0 ≡ get_or W i 0
   pub here : (i : ℕ) → s ≤ i → i < e → get_or X i 0 ≡ 0
   pub behind : (i : ℕ) → e ≤ i → get_or X i 0 ≡ get_or W i 0
-
-zero_at : (k j : ℕ) → ◌≡◌ {A = ℕ} (get_or (replicate k 0) j 0) 0
-zero_at zero j = refl
-zero_at (suc k) zero = refl
-zero_at (suc k) (suc j) = zero_at k j
 
 pub wiped : (W : List ℕ) (s e : ℕ) → s ≤ e → e ≤ length W → (ys : List ℕ) → ys ≡ replicate (length (run W s (e - s))) 0
     → Wiped W (take s W ++ (ys ++ drop (e - s) (drop s W))) s e
@@ -86,7 +45,7 @@ wiped W s e h l ys q =
       here = λ i p r.
           let z : i ≡ length (take s W) + (i - s) = omega arith in
           ap (λ (k : ℕ). get_or (A ++ (ys ++ D)) k 0) z ∙ get_or-append-add A (ys ++ D) (i - s) 0 ∙ get_or-append ys D 0 (i - s) (omega arith)
-          ∙ ap (λ (t : List ℕ). get_or t (i - s) 0) q ∙ zero_at (length (run W s (e - s))) (i - s);
+          ∙ ap (λ (t : List ℕ). get_or t (i - s) 0) q ∙ get_d_zeros (length (run W s (e - s))) (i - s);
       behind = λ i p.
           let z : i ≡ length (take s W) + (length ys + (i - e)) = omega arith in
           let y : s + ((e - s) + (i - e)) ≡ i = omega arith in
@@ -202,9 +161,6 @@ module _ (I W : List ℕ) (m : Mark) (g : Good I W m) (n s b : ℕ) (last : m.te
 
 -- what the last term's words are
 module _ (I W : List ℕ) (m : Mark) (g : Good I W m × (0 < m.terms)) where
-  pub last_held : Held I W (m.terms - 1)
-  last_held = let h = g.1 in record { mark = m; good = g.0; there = omega arith }
-
   last_end : get_or I (m.terms - 1) 0 ≡ m.words
   unfolding start
   last_end = let h = g.1 in let e : m.terms ≡ suc (m.terms - 1) = omega arith in sym (g.0.ends ∙ ap (start I) e)
@@ -247,31 +203,7 @@ pub record Going (I W : List ℕ) (least : ℕ) (J X : List ℕ) (k : Mark) : Ty
   pub same : Same I W J X k
   pub from : least ≤ k.terms
 
-pub going_begins : (I W : List ℕ) (m old : Mark) → Part I W m old → Going I W old.terms I W m
-going_begins I W m old p =
-    record { good = p.good; same = record { ends = λ i h. refl; words = λ i h. refl; long_index = refl; long_words = refl }; from = p.fewer }
-
 module _ (I W : List ℕ) (least : ℕ) (J X : List ℕ) (k : Mark) (q : Going I W least J X k) where
-  pub going_last : least < k.terms → Good J X k × (0 < k.terms)
-  going_last h = (q.good, omega arith)
-
-  pub going_on : least < k.terms → (L Y : List ℕ) (j : Mark) → Back J X L Y j → (j.terms ≡ k.terms - 1) × (j.words ≤ k.words) → Going I W least L Y j
-  going_on h L Y j b e =
-      let e0 = e.0 in
-      let e1 = e.1 in
-      let v = b.same in
-      let w = q.same in
-      record {
-        good = b.good;
-        same = record {
-          ends = λ i p. v.ends i p ∙ w.ends i (omega arith);
-          words = λ i p. v.words i p ∙ w.words i (omega arith);
-          long_index = v.long_index ∙ w.long_index;
-          long_words = v.long_words ∙ w.long_words;
-        };
-        from = omega arith;
-      }
-
   start_there : (i : ℕ) → i ≤ k.terms → start J i ≡ start I i
   unfolding start
   start_there zero h = refl

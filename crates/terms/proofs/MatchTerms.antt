@@ -9,7 +9,7 @@ use native.Mathlib.Decide.{ℕ_discrete}
 use lib.Dec.{eqb}
 use borrow.Author.Tests.{eq-eqb, ne_eqb}
 use Rattle.std.specs.Bool.{then_some}
-use lib.ListN.{length, get_or, set, take, drop, length-drop, drop_of_length-le}
+use lib.ListN.{length, get_or, set, drop, length-drop, drop_of_length-le}
 use lib.Seq.{drop-cons, get_or-drop}
 use Rattle.rules.specs.Limits.{SYMBOLS, RULEVARS}
 use Rattle.rules.specs.Tree.{Tree, Trees, var, app, size, sizes, count_trees}
@@ -19,6 +19,7 @@ use Rattle.terms.specs.declared.store.Mark.{Mark}
 use Rattle.terms.specs.Table.{node_at, args_of, tree_at, made, Shaped, is_var, is_app, Good}
 use Rattle.terms.specs.Patterns.{arity, Stands, bound_of, Cells, Matchable, Tried, hit, miss, TriedAt}
 use Rattle.terms.specs.Laws.Tables.{length_trees, tree_here, shaped_some, args_count}
+use Rattle.terms.proofs.Arguments.{behind}
 use Rattle.terms.proofs.Nodes.{behind_head}
 use Rattle.terms.proofs.Matches.{stands_var, stands_app, reads_var, var_new, var_same, var_other, all_other, app_same, app_other, Matching}
 use Rattle.terms.proofs.Matches.{matching_reads, matching_on, matching_miss, matching_ends}
@@ -30,10 +31,6 @@ arg_low : (n : ℕ) {w : List ℕ} (i : ℕ) → Shaped n w → 1 ≤ i → i < 
 arg_low n i (is_var {h = h} p u) f b = absurd (omega arith)
 arg_low n zero (is_app {xs = xs} p b) f k = absurd (omega arith)
 arg_low n (suc i) (is_app {xs = xs} p b) f k = b i (omega arith)
-
--- the words behind the head
-abbrev pub behind : List ℕ → List ℕ
-behind w = take (length w - 1) (drop 1 w)
 
 module _ (I W : List ℕ) (m : Mark) (id : ℕ) (w : List ℕ) (g : Good I W m) (h : id < m.terms) (q : w ≡ node_at I W id) where
   node_shaped : Shaped id w

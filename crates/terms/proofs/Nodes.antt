@@ -18,7 +18,7 @@ use Rattle.terms.specs.Table.{CHAINS, FLAGS, HEADS, INDEX, BUCKETS, args_of, tre
 use Rattle.terms.specs.Table.{settled}
 use Rattle.terms.specs.Node.{Linked, Held, HeldIn, HeadIs, OpenIs}
 use Rattle.terms.specs.Laws.Tables.{tree_app, tree_var, end_within}
-use Rattle.terms.specs.Laws.Terms.{flag_in, start_in, head_tree}
+use Rattle.terms.specs.Laws.Terms.{start_in, head_tree}
 use Rattle.terms.specs.Laws.Runs.{run_length}
 
 -- Flags ----------------------------------------------------------------------------------------------------------------------------
@@ -139,9 +139,6 @@ open_flag true n e = ap (λ (k : ℕ). not (eqb k 0)) e
 open_flag false n e = ap (λ (k : ℕ). not (eqb k 0)) e
 
 module _ (I : List ℕ) (id : ℕ) (h : HeldIn I id) where
-  pub held_flag : FLAGS + id < length I
-  held_flag = flag_in I h.words h.held.mark h.held.good id h.held.there
-
   pub open_is : OpenIs I id (not (eqb (get_or I (FLAGS + id) 0) 0))
   open_is W m g l = open_flag (is_open (get_or (made I W m) id (var 0))) (get_or I (FLAGS + id) 0) (g.flags id l)
 

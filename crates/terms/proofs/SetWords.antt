@@ -1,11 +1,12 @@
 -- What the operations on words do to the sets that the words stand for. Assumes nothing.
 use mathlib.Core.Path.{◌≡◌, refl, sym, ap, ◌∙◌}
+use Rattle.std.proofs.Math.Bool.{or-false}
 use mathlib.Core.Bool.{Bool, true, false, ◌&&◌, not, ◌||◌}
 use mathlib.Core.List.{List, ◌∷◌, ◌++◌}
 use Prim.Native.Nat.{ℕ, zero, suc, ◌+◌, ◌-◌, ◌*◌, ◌/◌, ◌%◌, ◌^◌, ◌≤◌, ◌<◌}
 use native.Mathlib.Omega.{arith}
 use native.Mathlib.Decide.{ℕ_discrete, dec_lt}
-use native.Mathlib.Nat.{one-mul, not-suc-le-zero, pow-suc}
+use native.Mathlib.Nat.{one-mul, pow-suc}
 use native.Mathlib.Numerals.{add-one}
 use lib.Dec.{eqb, lit<}
 use lib.Pow.{shl_exact}
@@ -22,7 +23,7 @@ use Rattle.rules.specs.Find.{union, minus, least, rising, rising_from}
 use Rattle.rules.specs.Laws.Set.{least_none, least_here, rising_all, rising_none, rising_split, rising_from_length}
 use Rattle.terms.specs.Sets.{digit, holds, plus}
 use Rattle.terms.specs.Laws.Digits.{digit_or, digit_and, digit_not, digit_one, digit_zero, digit_suc, digit_of_zero, Lowest, lowest}
-use Rattle.terms.specs.Laws.Sets.{eqb_iff, or_false, word_digit}
+use Rattle.terms.specs.Laws.Sets.{eqb_iff, word_digit}
 
 -- has ------------------------------------------------------------------------------------------------------------------------
 
@@ -54,7 +55,7 @@ module _ (s : List ℕ) (v : ℕ) (h : v < 64 * length s) where
         ∙ ap (λ (b : Bool). digit (get_or s (w / 64) 0) (w % 64) || b) (digit_one (w % 64) (v % 64) ∙ eqb_iff (w % 64) (v % 64) w v (λ p. omega arith) (λ p. ap (λ (n : ℕ). n % 64) p))
     | no q ↦
         ap (λ (n : ℕ). digit n (w % 64)) (get_or-set_other s (v / 64) (w / 64) inserted 0 q)
-        ∙ sym (or_false (digit (get_or s (w / 64) 0) (w % 64)))
+        ∙ sym (or-false (digit (get_or s (w / 64) 0) (w % 64)))
         ∙ ap (λ (b : Bool). digit (get_or s (w / 64) 0) (w % 64) || b) (sym (ne_eqb w v (λ e. q (ap (λ (n : ℕ). n / 64) e))))
   ]
 
@@ -69,9 +70,6 @@ pub record Joined (f : Bool → Bool → Bool) (s t u : List ℕ) (i : ℕ) : Ty
   pub long : length u ≡ length s
   pub done : (k : ℕ) → k < i → (j : ℕ) → j < 64 → digit (get_or u k 0) j ≡ f (digit (get_or s k 0) j) (digit (get_or t k 0) j)
   pub left : (k : ℕ) → i ≤ k → get_or u k 0 ≡ get_or s k 0
-
-pub joined_none : (f : Bool → Bool → Bool) (s t : List ℕ) → Joined f s t s 0
-joined_none f s t = record { inside = omega arith; long = refl; done = λ k l. absurd (not-suc-le-zero l); left = λ k l. refl }
 
 -- the word x comes next
 pub joined_more : (f : Bool → Bool → Bool) (s t u : List ℕ) (i x : ℕ) → Joined f s t u i → i < length u

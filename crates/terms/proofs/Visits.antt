@@ -2,12 +2,13 @@
 use mathlib.Core.Path.{◌≡◌, refl, sym, ap, ◌∙◌, subst}
 use mathlib.Core.Bool.{Bool, true, false, true≢false, ◌||◌}
 use mathlib.Core.List.{List}
-use mathlib.Core.Logic.{◌⊎◌, inl, inr, ⊎_elim}
-use Prim.Native.Nat.{ℕ, ◌+◌, ◌-◌, ◌*◌, ◌≤◌, ◌<◌}
+use mathlib.Core.Logic.{⊎_elim}
+use Prim.Native.Nat.{ℕ, ◌+◌, ◌-◌, ◌≤◌, ◌<◌}
 use native.Mathlib.Omega.{arith}
 use lib.ListN.{length, get_or, replicate}
 use lib.Dec.{eqb}
 use borrow.Author.Tests.{eqb-true}
+use Rattle.std.proofs.lemmas.Bool.{or_cases}
 use Rattle.rules.specs.Limits.{SYMBOLS}
 use Rattle.rules.specs.Find.{Set, union}
 use Rattle.rules.specs.Laws.Set.{or_left, or_right, union_assoc, union_empty, union_inside}
@@ -18,22 +19,10 @@ use Rattle.terms.specs.declared.store.Mark.{Mark}
 use Rattle.terms.specs.Sets.{holds, plus}
 use Rattle.terms.specs.Table.{run, start, args_of, made, Good, tree}
 use Rattle.terms.specs.Collect.{Seen, Readable, open_nodes, open_nodes_of, Visited}
-use Rattle.terms.specs.Laws.Sets.{holds_zero}
-use Rattle.terms.specs.Laws.Terms.{args_more, args_none, node_rise, node_inside, term_app, term_var, variable_small, args_below}
+use Rattle.terms.specs.Laws.Sets.{holds_zero, or_last}
+use Rattle.terms.specs.Laws.Terms.{args_more, args_none, node_rise, node_inside, term_app, term_var, args_below}
 use Rattle.terms.specs.Laws.Seen.{closed_nodes, var_nodes, open_nodes_lem, nodes_none, nodes_more, seen_wider}
 use Rattle.terms.specs.Laws.Numbers.{tree_number}
-
--- one of two
-or_true : (p q : Bool) → p || q ≡ true → (p ≡ true) ⊎ (q ≡ true)
-or_true true q e = inl refl
-or_true false q e = inr e
-
-or_last : (p q r : Bool) → (p || q) || r ≡ p || (r || q)
-or_last true q r = refl
-or_last false true true = refl
-or_last false true false = refl
-or_last false false true = refl
-or_last false false false = refl
 
 module _ (I W : List ℕ) (m : Mark) (id : ℕ) where
   abbrev nodes : Set
@@ -59,7 +48,7 @@ module _ (I W : List ℕ) (m : Mark) (id : ℕ) where
     where
       -- a term that is visited was visited, or is this one
       either : {B : Type 0} (i : ℕ) → (seen i ≡ true → B) → (i ≡ id → B) → seen' i ≡ true → B
-      either i f g t = ⊎_elim f (λ q. g (eqb-true i id q)) (or_true (seen i) (eqb i id) (sym (ap (λ (c : Set). c i) p) ∙ t))
+      either i f g t = ⊎_elim f (λ q. g (eqb-true i id q)) (or_cases (seen i) (eqb i id) (sym (ap (λ (c : Set). c i) p) ∙ t))
 
       there : (i : ℕ) → seen' i ≡ true → i < m.terms
       there i t = either i (s.there i) (λ z. omega arith) t
@@ -87,11 +76,6 @@ module _ (I W : List ℕ) (m : Mark) (id : ℕ) where
           nodes = sym (union_empty seen) ∙ ap (union seen) (sym (ap (open_nodes (made I W m)) t ∙ var_nodes (made I W m) (get_or W s 0 - SYMBOLS)));
           visits = subst (Seen I W m seen) (sym f) (seen_wider (variables (tree I W m id)) k);
         }
-
--- the set has room for a variable
-pub var_fits : (I W : List ℕ) (m : Mark) (id : ℕ) (seen set : List ℕ) → Readable I W m id seen set → (s : ℕ) → s ≡ start I id → SYMBOLS ≤ get_or W s 0
-    → get_or W s 0 - SYMBOLS < 64 * length set
-var_fits I W m id seen set r s b q = let a = variable_small I W m r.good id r.there s b q in let d = r.broad in omega arith
 
 app_open : (c : ℕ) (ts : Trees) (t : Tree) → t ≡ app c ts → is_open t ≡ true → are_open ts ≡ true
 unfolding is_open
@@ -144,9 +128,6 @@ module _ (I W : List ℕ) (m : Mark) (id s e : ℕ) (set₀ seen₀ set seen : L
   inside = let a = node_inside I W m l.ready.good id l.ready.there s l.begins in let b = l.ends in omega arith
 
   module _ (h : at < e) where
-    pub arg_in : at < length W
-    arg_in = let a = inside in omega arith
-
     pub arg_falls : get_or W at 0 < id
     arg_falls = args_below I W m l.ready.good id l.ready.there s l.begins l.small at l.from (let a = l.ends in omega arith)
 
@@ -210,9 +191,6 @@ module _ (I W : List ℕ) (m : Mark) (id s e : ℕ) (set₀ seen₀ set seen : L
           ∙ (λ i j. or_last (holds seen₀ j) (open_nodes_of M args j) (eqb j id) i)
           ∙ (λ i j. holds seen₀ j || (eqb j (sym own i) || open_nodes_of M args j))
           ∙ ap (union (holds seen₀)) (sym (ap (open_nodes M) is ∙ open_nodes_lem M (get_or W s 0) args opens))
-
-pub cleared : (seen mid last : List ℕ) → seen ≡ replicate (length seen) 0 → length mid ≡ length seen → last ≡ replicate (length mid) 0 → last ≡ seen
-cleared seen mid last a b c = c ∙ ap (λ (n : ℕ). replicate n 0) b ∙ sym a
 
 -- what joined the empty set is all of it
 pub occurs_is : (n : ℕ) (t : Tree) (a : Set) (x : ℕ) (r : Bool) → a ≡ union (holds (replicate n 0)) (variables t) → r ≡ a x → r ≡ variables t x

@@ -17,3 +17,4 @@ pub mod Answers
 pub mod Bound
 pub mod Seen
 pub mod Variable
+pub mod Below

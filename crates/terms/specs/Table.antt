@@ -65,10 +65,14 @@ made I W m = trees I W m.terms
 abbrev pub tree : List ℕ → List ℕ → Mark → ℕ → Tree
 tree I W m i = get_or (made I W m) i (var 0)
 
+-- numbers that are all below n
+abbrev pub Below : ℕ → List ℕ → Type 0
+Below n xs = (k : ℕ) → k < length xs → get_or xs k 0 < n
+
 -- a node: a variable's has no arguments, and is one that there can be; a symbol's arguments are all below n
 pub data Shaped (n : ℕ) : List ℕ → Type 0 where
   is_var : {h : ℕ} → SYMBOLS ≤ h → h < SYMBOLS + VARIABLES → Shaped n (h ∷ [])
-  is_app : {h : ℕ} {xs : List ℕ} → h < SYMBOLS → ((k : ℕ) → k < length xs → get_or xs k 0 < n) → Shaped n (h ∷ xs)
+  is_app : {h : ℕ} {xs : List ℕ} → h < SYMBOLS → Below n xs → Shaped n (h ∷ xs)
 
 -- a node that can be kept
 pub record Node (n : ℕ) (w : List ℕ) : Type 0 where

@@ -30,6 +30,10 @@ pub struct Mark {
     pub words: usize,
 }
 
+impl Mark {
+    pub const NONE: Mark = Mark { terms: 0, words: 0 };
+}
+
 // The tables as they are read.
 #[derive(Clone, Copy)]
 pub struct Terms<'a> {

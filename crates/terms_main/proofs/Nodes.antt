@@ -2,11 +2,7 @@
 use Rattle.std.proofs.Common.{ℕ, zero, suc, ◌-◌, ◌<◌, List, [], ◌∷◌, length, take, drop, get_or, subst, sym, arith}
 use Rattle.std.proofs.Common.{take_all}
 use Rattle.rules.specs.Limits.{SYMBOLS}
-use Rattle.terms.specs.Table.{Shaped, is_var, is_app, Node}
-
--- each is below the number
-abbrev pub Below : ℕ → List ℕ → Type 0
-Below n xs = (k : ℕ) → k < length xs → get_or xs k 0 < n
+use Rattle.terms.specs.Table.{Below, Shaped, is_var, is_app, Node}
 
 -- an application's arguments stand before it
 pub args_below : (n : ℕ) (w : List ℕ) → Shaped n w → get_or w 0 0 < SYMBOLS → Below n (take (length w - 1) (drop 1 w))

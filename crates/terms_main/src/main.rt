@@ -177,7 +177,7 @@ fn solve<W: Write>(out: &mut W, alloc: Global, left: &str, right: &str) -> Resul
     let mut store = Store {
         index: &mut index,
         words: &mut words,
-        mark: Mark { terms: 0, words: 0 },
+        mark: Mark::NONE,
     };
     let s = read(&mut left.as_bytes(), &mut store)?;
     let t = read(&mut right.as_bytes(), &mut store)?;

@@ -1,11 +1,10 @@
 -- What two terms of good tables ask for, by their heads and the numbers of their arguments. Assumes nothing.
 use mathlib.Core.Path.{◌≡◌, sym, ap, ◌∙◌, subst}
 use mathlib.Core.Bool.{Bool, true, false}
-use mathlib.Core.List.{List, [], ◌∷◌}
+use mathlib.Core.List.{List, []}
 use Prim.Native.Nat.{ℕ, suc, ◌-◌, ◌≤◌, ◌<◌}
 use native.Mathlib.Omega.{arith}
-use lib.ListN.{length, get_or, take, drop}
-use lib.Seq.{take_all}
+use lib.ListN.{length, get_or}
 use lib.Dec.{eqb}
 use borrow.Author.Tests.{eq-eqb, ne_eqb}
 use Rattle.rules.specs.Limits.{SYMBOLS, VARIABLES}
@@ -16,8 +15,9 @@ use Rattle.rules.specs.Laws.Store.{Apart}
 use Rattle.rules.specs.Unify.{Look, agree, clash, binds, parts, bind_or_clash, differ, look}
 use Rattle.terms.specs.declared.store.Mark.{Mark}
 use Rattle.unification.specs.declared.pairs.Asks.{Asks}
-use Rattle.terms.specs.Table.{start, args_of, tree_at, node_at, made, Shaped, is_var, is_app, Good, tree}
+use Rattle.terms.specs.Table.{start, args_of, tree_at, node_at, made, Below, Shaped, is_var, is_app, Good, tree}
 use Rattle.unification.specs.Pairs.{Searchable, Comparable, BindsTo, PartsAre, Answered}
+use Rattle.terms.proofs.Arguments.{behind, behind_cons}
 use Rattle.terms.specs.Laws.Tables.{length_trees, args_count, shaped_some, tree_here, tree_app, tree_var, node_length}
 
 -- The definition by cases ----------------------------------------------------------------------------------------------------------
@@ -74,28 +74,21 @@ module _ (I W : List ℕ) (m : Mark) (seen : List ℕ) (x id : ℕ) (q : Searcha
 
 -- A term by its words -----------------------------------------------------------------------------------------------------------------
 
--- the words behind the head
-abbrev behind : List ℕ → List ℕ
-behind w = take (length w - 1) (drop 1 w)
-
-behind_is : (x : ℕ) (xs : List ℕ) → behind (x ∷ xs) ≡ xs
-behind_is x xs = take_all (length (x ∷ xs) - 1) xs (omega arith)
-
 word_var : (M : Made) (n : ℕ) {w : List ℕ} → Shaped n w → SYMBOLS ≤ get_or w 0 0 → (tree_at M w ≡ var (get_or w 0 0 - SYMBOLS)) × (get_or w 0 0 - SYMBOLS < VARIABLES)
 word_var M n (is_var {h = h} p u) l = (tree_var M h [] l, omega (arith, p, u))
 word_var M n (is_app {h = h} {xs = xs} p b) l = absurd (omega (arith, p, l))
 
 word_app : (M : Made) (n : ℕ) {w : List ℕ} → Shaped n w → get_or w 0 0 < SYMBOLS → tree_at M w ≡ app (get_or w 0 0) (args_of M (behind w))
 word_app M n (is_var {h = h} p u) l = absurd (omega (arith, p, l))
-word_app M n (is_app {h = h} {xs = xs} p b) l = tree_app M h xs l ∙ ap (λ (ys : List ℕ). app h (args_of M ys)) (sym (behind_is h xs))
+word_app M n (is_app {h = h} {xs = xs} p b) l = tree_app M h xs l ∙ ap (λ (ys : List ℕ). app h (args_of M ys)) (sym (behind_cons h xs))
 
 word_args : (n : ℕ) {w : List ℕ} → Shaped n w → get_or w 0 0 < SYMBOLS → (k : ℕ) → k < length (behind w) → get_or (behind w) k 0 < n
 word_args n (is_var {h = h} p u) l = absurd (omega (arith, p, l))
-word_args n (is_app {h = h} {xs = xs} p b) l = subst (λ (ys : List ℕ). (k : ℕ) → k < length ys → get_or ys k 0 < n) (sym (behind_is h xs)) b
+word_args n (is_app {h = h} {xs = xs} p b) l = subst (Below n) (sym (behind_cons h xs)) b
 
 word_count : (n : ℕ) {w : List ℕ} → Shaped n w → suc (length (behind w)) ≡ length w
-word_count n (is_var {h = h} p u) = ap (λ (ys : List ℕ). suc (length ys)) (behind_is h [])
-word_count n (is_app {h = h} {xs = xs} p b) = ap (λ (ys : List ℕ). suc (length ys)) (behind_is h xs)
+word_count n (is_var {h = h} p u) = ap (λ (ys : List ℕ). suc (length ys)) (behind_cons h [])
+word_count n (is_app {h = h} {xs = xs} p b) = ap (λ (ys : List ℕ). suc (length ys)) (behind_cons h xs)
 
 -- Two terms --------------------------------------------------------------------------------------------------------------------------
 

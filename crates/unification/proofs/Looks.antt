@@ -107,9 +107,6 @@ module _ (I W : List ℕ) (m : Mark) (P seen : List ℕ) (w s t : ℕ) (q : Look
     look_crowd h = let z = count in record { lefts = _; rights = _; asks = asks.asks; full = omega arith }
 
     module _ (h : w + length xs ≤ PAIRS) where
-      pub look_asks : (length ys ≡ length xs) × (2 * (w + length xs) ≤ length P)
-      look_asks = let z = q.many in (asks.even, omega arith)
-
       onto : waits (made I W m) (piled xs ys P w (length xs)) (w + length xs) ≡ push (args_of (made I W m) xs) (args_of (made I W m) ys) (waits (made I W m) P w)
       onto =
           let z = q.many in

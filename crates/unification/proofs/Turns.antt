@@ -175,9 +175,6 @@ module _ (I W : List ℕ) (m : Mark) (theta memo P seen : List ℕ) (w : ℕ) (q
             })
 
         module _ (got : OntoPairs J X new P P' (w - 1) v L) where
-          abbrev qs : List Pair
-          qs = pairs_of J X new P' v
-
           whole : weighs I W m theta P w ≡ size (sub (along θ) (tree I W m s)) + weight θ ps
           unfolding weight
           whole = ap (weight θ) split

@@ -26,7 +26,8 @@ use Rattle.state.specs.Rows.{cell, premises_span, general_span}
 use Rattle.state.specs.Entries.{part}
 use Rattle.state.specs.FactLaws.{FactRow, fact_row_lem, lists_long}
 use Rattle.referring.specs.Recall.{fact_of, Recalls, RecallsFact}
-use Rattle.casework.specs.Context.{There, allowed_of, OneMarked}
+use Rattle.terms.specs.Table.{Below}
+use Rattle.casework.specs.Context.{allowed_of, OneMarked}
 
 -- Truth values -----------------------------------------------------------------------------------------------------------------------------
 
@@ -77,7 +78,7 @@ module _ {facts lists : List ℕ} {n : Sizes} {I W : List ℕ} {m : Mark} (g : R
     row = fact_row_lem g.recorded h l
 
     -- its premises by their numbers
-    pub premises_there : There m.terms (part lists (premises_span facts h))
+    pub premises_there : Below m.terms (part lists (premises_span facts h))
     premises_there i k =
         let r = row in
         let e = made_length I W m in
@@ -106,7 +107,7 @@ module _ {facts lists : List ℕ} {n : Sizes} {I W : List ℕ} {m : Mark} (g : R
     recalled = (g.footings, record { S = g.S; n = n; trees = made I W m; recorded = g.recorded; there = l })
 
     -- the row says it
-    module _ {j : ℕ} (ids gs : List ℕ) (k : j < m.terms) (t : There m.terms ids) where
+    module _ {j : ℕ} (ids gs : List ℕ) (k : j < m.terms) (t : Below m.terms ids) where
       pub row_is : is_allowed (fact_of g.S h) (allowed_of (made I W m) ids j gs)
           ≡ same ids (part lists (premises_span facts h)) && (eqb j (cell 6 facts h 0) && same gs (part lists (general_span facts h)))
       unfolding is_allowed

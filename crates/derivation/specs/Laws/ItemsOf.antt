@@ -29,7 +29,7 @@ use Rattle.terms.specs.declared.store.Mark.{Mark}
 use Rattle.terms.specs.Table.{made, tree, Grown}
 use Rattle.terms.specs.Patterns.{tree_in, bound_of, Cells}
 use Rattle.terms.specs.On.{Went}
-use Rattle.terms.specs.Laws.Bound.{bound_zeros, cells_zeros, bound_set, cells_set, bound_grown, cells_grown}
+use Rattle.terms.specs.Laws.Bound.{tree_in_grown, bound_zeros, cells_zeros, bound_set, cells_set, bound_grown, cells_grown}
 use Rattle.terms.specs.Laws.Growth.{made_length, grown_tree}
 use Rattle.state.specs.declared.sizes.Sizes.{Sizes}
 use Rattle.state.specs.Held.{Names}
@@ -91,11 +91,6 @@ module _ {I W J X : List ℕ} {old new : Mark} (g : Grown I W J X old new) where
       ∙ ap (λ (b : Bool). variables (tree J X new (suc c - 1)) w || b) (cell_vars_grown cs (λ k. h (suc k)) w)
       ∙ ap (λ (t : Tree). variables t w || cell_vars (made I W old) cs w) (grown_tree g (suc c - 1) (omega arith))
       ∙ sym (cell_some (made I W old) (suc c) cs w (λ q. omega arith))
-
-  tree_in_grown : (x : ℕ) → x ≤ old.terms → tree_in (made J X new) x ≡ tree_in (made I W old) x
-  unfolding tree_in
-  tree_in_grown zero l = refl
-  tree_in_grown (suc x) l = ap some (grown_tree g x l)
 
 new_tree : (M : Made) (c : ℕ) → is_new (tree_in M c) ≡ eqb c 0
 unfolding tree_in is_new

@@ -1,4 +1,5 @@
 -- Forms of derived facts, and all tables at once: what they are given, and what stands afterwards. Assumes nothing.
+use Rattle.state.specs.Records.{fact_rows, fact_feet}
 use Rattle.std.specs.Prelude.{refl, List, ℕ, ◌≤◌, Result, Ok, Err}
 use Rattle.std.proofs.Common.{sym, subst}
 use Rattle.rules.specs.Out.{Out}
@@ -12,13 +13,14 @@ use Rattle.terms.specs.Table.{made}
 use Rattle.state.specs.declared.sizes.Sizes.{Sizes}
 use Rattle.state.specs.declared.board.Given.{Given}
 use Rattle.state.specs.declared.board.Board.{Board as Lent}
+use Rattle.state.specs.Boards.{OnlyFacts}
 use Rattle.state.specs.Recording.{with_fact}
 use Rattle.state.specs.Stands.{Board, board, Stands}
 use Rattle.state.specs.Updates.{stands_derived}
 use Rattle.counts.specs.declared.Counts.{Counts}
 use Rattle.counts.specs.Counted.{counts_of}
 use Rattle.referring.specs.Recall.{Refers}
-use Rattle.forms.specs.Boards.{texts_of, theory_of, names_in, StandsIn, OnlyFacts}
+use Rattle.forms.specs.Boards.{texts_of, theory_of, names_in, StandsIn}
 use Rattle.forms.specs.Moved.{MovesIn, LeftIn}
 use Rattle.forms.specs.Laws.Leaving.{stands_makes}
 use Rattle.entering.specs.declared.derive.Way.{Way}
@@ -35,7 +37,7 @@ least_of way.InductWith = 6
 -- Given --------------------------------------------------------------------------------------------------------------------------------
 
 module _ (g : Given) (b : Lent) (s : Store) {S : State} (h : StandsIn g b s S) {cells : List ℕ} {xs : Sexps} (o : Holds g.text.now cells xs) where
-  abbrev pub stands_refers : Refers (names_in g b) b.facts.now b.footings.now b.lists.now b.n s.index.now s.words.now s.mark S
+  abbrev pub stands_refers : Refers (names_in g b) (fact_rows b.facts.now) (fact_feet b.facts.now) b.lists.now b.n s.index.now s.words.now s.mark S
   stands_refers = record { reads = record { spelling = h.spelling; good = h.good }; recorded = h.recorded }
 
   -- what a step is given, and the other forms
@@ -70,7 +72,7 @@ module _ (g : Given) (b c : Lent) (s t : Store) {S : State} (h : StandsIn g b s 
         after = T;
         is = y.is;
         stands = subst (λ (x : Board × Sizes). Stands (texts_of g) (theory_of g) x.0 x.1 t.mark T)
-            (λ i. (board (sym o.0 i) t.index.now t.words.now (sym o.1 i) (sym o.2 i) c.facts.now c.footings.now c.lists.now, sym z.1 i))
+            (λ i. (board (sym o.0 i) t.index.now t.words.now (sym o.1 i) (sym o.2 i) (fact_rows c.facts.now) (fact_feet c.facts.now) c.lists.now, sym z.1 i))
             (stands_derived (stands_makes h y.makes) (plus S.counts (counts_of u)) c.n.entries y.derives y.valid (Ok c.n.entries) y.stored refl);
         counted = refl;
       }

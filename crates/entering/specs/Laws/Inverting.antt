@@ -1,4 +1,5 @@
 -- The form of an inversion, and all tables at once: what it is given, and what stands afterwards. Assumes nothing.
+use Rattle.state.specs.Records.{fact_rows, fact_feet}
 use Rattle.std.specs.Prelude.{refl, List, ℕ, ◌≤◌, length, Ok, Err}
 use Rattle.std.proofs.Common.{sym, ap, subst}
 use Rattle.rules.specs.Out.{Out}
@@ -14,12 +15,13 @@ use Rattle.terms.specs.Table.{made}
 use Rattle.state.specs.declared.sizes.Sizes.{Sizes}
 use Rattle.state.specs.declared.board.Given.{Given}
 use Rattle.state.specs.declared.board.Board.{Board as Lent}
+use Rattle.state.specs.Boards.{OnlyFactsAndVars}
 use Rattle.state.specs.Recording.{with_fact}
 use Rattle.state.specs.Stands.{Board, board, Stands}
 use Rattle.state.specs.Updates.{stands_vars, stands_derived}
 use Rattle.counts.specs.declared.Counts.{Counts}
 use Rattle.counts.specs.Counted.{counts_of}
-use Rattle.forms.specs.Boards.{texts_of, theory_of, StandsIn, OnlyFactsAndVars}
+use Rattle.forms.specs.Boards.{texts_of, theory_of, StandsIn}
 use Rattle.forms.specs.Moved.{MovesIn, LeftIn}
 use Rattle.forms.specs.Laws.Leaving.{stands_makes}
 use Rattle.entering.specs.Inverted.{AddsInversionIn, InversionAs}
@@ -53,7 +55,7 @@ module _ (g : Given) (b : Lent) (s : Store) {S : State} (h : StandsIn g b s S) w
           after = T;
           is = y.is;
           stands = subst (λ (x : Board × Sizes). Stands (texts_of g) (theory_of g) x.0 x.1 t.mark T)
-              (λ i. (board c.vars.now t.index.now t.words.now (sym o.0 i) (sym o.1 i) c.facts.now c.footings.now c.lists.now, sym z.1 i))
+              (λ i. (board c.vars.now t.index.now t.words.now (sym o.0 i) (sym o.1 i) (fact_rows c.facts.now) (fact_feet c.facts.now) c.lists.now, sym z.1 i))
               (stands_derived (stands_makes (stands_vars h c.n.vars d.held d.behind) y.makes) N c.n.entries y.derives y.valid (Ok c.n.entries) y.stored refl);
           counted = ap (plus S.counts) (sym z.2);
         }

@@ -1,5 +1,6 @@
 -- From the answers of `add_var` and `add_def` to all tables at once. Each law takes what the call is given from the tables, then its answer.
 -- Assumes nothing.
+use Rattle.state.specs.Records.{fact_rows, fact_feet}
 use Rattle.std.specs.Prelude.{◌≡◌, refl, List, [], ◌∷◌, ◌++◌, ℕ, ◌≤◌, Result, Ok, Err}
 use Rattle.std.proofs.Common.{sym, ap, ◌∙◌, subst}
 use Rattle.rules.specs.Out.{Out}
@@ -12,6 +13,7 @@ use Rattle.kernel.specs.Parsed.{TheoryLists}
 use Rattle.terms.specs.declared.store.Mark.{Mark}
 use Rattle.terms.specs.Table.{made}
 use Rattle.state.specs.declared.sizes.Sizes.{Sizes}
+use Rattle.state.specs.Boards.{OnlyVars, OnlyDefs}
 use Rattle.state.specs.Held.{text_of, names}
 use Rattle.state.specs.Stands.{Texts, Board, board, Stands}
 use Rattle.state.specs.Updates.{stands_var, stands_def}
@@ -20,7 +22,7 @@ use Rattle.terms.specs.declared.store.Store.{Store}
 use Rattle.state.specs.declared.board.Given.{Given}
 use Rattle.state.specs.declared.board.Board.{Board as Lent}
 use Rattle.forms.specs.Halted.{ReadsForm}
-use Rattle.forms.specs.Boards.{StandsIn, OnlyVars, OnlyDefs, texts_of, theory_of}
+use Rattle.forms.specs.Boards.{StandsIn, texts_of, theory_of}
 use Rattle.forms.specs.Declares.{AddsVar, VarAdded, VarAs, DefAdded, DefAs}
 use Rattle.forms.specs.Moved.{MovesIn, LeftIn}
 use Rattle.forms.specs.Laws.Making.{makes_none}
@@ -60,7 +62,7 @@ module _ (g : Given) (b c : Lent) (s : Store) {S : State} (h : StandsIn g b s S)
         after = T;
         is = v.is;
         stands = subst (λ (x : Board × Sizes). Stands (texts_of g) (theory_of g) x.0 x.1 s.mark T)
-            (λ i. (board (sym v.cells i) s.index.now s.words.now (sym o.0 i) (sym o.1 i) (sym o.2 i) (sym o.3 i) (sym o.4 i), sym z.1 i))
+            (λ i. (board (sym v.cells i) s.index.now s.words.now (sym o.0 i) (sym o.1 i) (fact_rows (sym o.2 i)) (fact_feet (sym o.2 i)) (sym o.3 i), sym z.1 i))
             (stands_var h v.new v.end v.room
             (subst (λ l. NameIn l v.new.name) (sym (ap (text_of g.goals.now g.text.now) v.of_text ∙ t)) v.named) v.ends);
         counted = refl;
@@ -73,7 +75,7 @@ module _ (g : Given) (b c : Lent) (s : Store) {S : State} (h : StandsIn g b s S)
           until = S;
           is = z.0;
           makes = makes_none S h.good h.spelling.trees;
-          rests = λ i. board (z.1 i) s.index.now s.words.now (o.0 i) (o.1 i) (o.2 i) (o.3 i) (o.4 i);
+          rests = λ i. board (z.1 i) s.index.now s.words.now (o.0 i) (o.1 i) (fact_rows (o.2 i)) (fact_feet (o.2 i)) (o.3 i);
         },
         z.2,
       )
@@ -89,7 +91,7 @@ module _ (g : Given) (b c : Lent) (s t : Store) {S : State} (h : StandsIn g b s 
         after = T;
         is = d.is;
         stands = subst (λ (x : Board × Sizes). Stands (texts_of g) (theory_of g) x.0 x.1 t.mark T)
-            (λ i. (board (sym o.0 i) t.index.now t.words.now (sym d.cells i) (sym o.1 i) (sym o.2 i) (sym o.3 i) (sym o.4 i), sym z.1 i))
+            (λ i. (board (sym o.0 i) t.index.now t.words.now (sym d.cells i) (sym o.1 i) (fact_rows (sym o.2 i)) (fact_feet (sym o.2 i)) (sym o.3 i), sym z.1 i))
             (stands_def (stands_makes h d.makes) d.new d.end d.term d.room d.named d.there d.ends d.numbered);
         counted = refl;
       }
@@ -101,7 +103,7 @@ module _ (g : Given) (b c : Lent) (s t : Store) {S : State} (h : StandsIn g b s 
           until = _;
           is = z.0.is;
           makes = z.0.makes;
-          rests = λ i. board (o.0 i) t.index.now t.words.now (z.1 i) (o.1 i) (o.2 i) (o.3 i) (o.4 i);
+          rests = λ i. board (o.0 i) t.index.now t.words.now (z.1 i) (o.1 i) (fact_rows (o.2 i)) (fact_feet (o.2 i)) (o.3 i);
         },
         z.2,
       )

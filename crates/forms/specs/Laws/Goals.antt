@@ -1,5 +1,6 @@
 -- A goal more, from all tables to all tables: what `add_goal` and `add_goal_with` answer, where the tables stand for a state without facts.
 -- Assumes nothing.
+use Rattle.state.specs.Records.{fact_rows, fact_feet}
 use Rattle.std.specs.Prelude.{◌≡◌, refl, List, [], ◌∷◌, ◌++◌, ℕ, ◌-◌, ◌≤◌, length, drop, replicate, Result, Ok, Err}
 use Rattle.std.proofs.Common.{sym, ap, ◌∙◌, subst, arith}
 use Rattle.rules.specs.Limits.{ENTRIES}
@@ -17,6 +18,7 @@ use Rattle.terms.specs.declared.store.Mark.{Mark}
 use Rattle.terms.specs.Table.{made, tree}
 use Rattle.terms.specs.Laws.Numbers.{tree_number, tree_stored}
 use Rattle.state.specs.declared.sizes.Sizes.{Sizes}
+use Rattle.state.specs.Boards.{OnlyGoals}
 use Rattle.state.specs.Held.{names, listed}
 use Rattle.state.specs.FactLaws.{length_listed, entries_fit, lists_long}
 use Rattle.state.specs.Numbered.{in_sound}
@@ -26,7 +28,7 @@ use Rattle.questions.specs.declared.Question.{Question}
 use Rattle.terms.specs.declared.store.Store.{Store}
 use Rattle.state.specs.declared.board.Given.{Given}
 use Rattle.state.specs.declared.board.Board.{Board as Lent}
-use Rattle.forms.specs.Boards.{StandsIn, OnlyGoals, texts_of, theory_of}
+use Rattle.forms.specs.Boards.{StandsIn, texts_of, theory_of}
 use Rattle.forms.specs.Goals.{AddsGoal, new_goal, GoalAdded, AimedAs}
 use Rattle.forms.specs.Moved.{MovesIn, LeftIn}
 use Rattle.forms.specs.Laws.Leaving.{stands_makes}
@@ -83,7 +85,7 @@ module _ (g : Given) (b c : Lent) (s t : Store) {S : State} (h : StandsIn g b s 
         after = T;
         is = p.is;
         stands = subst (λ (x : Board × Sizes). Stands (texts_of g) (theory_of g) x.0 x.1 t.mark T)
-            (λ i. (board (sym o.0 i) t.index.now t.words.now (sym o.1 i) (sym p.rows_are i) (sym o.2 i) (sym o.3 i) (sym y.lists_are i), sym z.1 i))
+            (λ i. (board (sym o.0 i) t.index.now t.words.now (sym o.1 i) (sym p.rows_are i) (fact_rows (sym o.2 i)) (fact_feet (sym o.2 i)) (sym y.lists_are i), sym z.1 i))
             (stands_goal (stands_makes h y.makes) goal p.end y.judgment (count_trees y.hyps) c.n.entries none p.room
             (subst (λ l. NameIn l p.name) same p.named) p.ends
             (sym (tree_number y.makes.grown.good y.judgment y.there)) refl refl (record { judgment = known; hyps = y.known }) p.used p.fits);
@@ -97,7 +99,7 @@ module _ (g : Given) (b c : Lent) (s t : Store) {S : State} (h : StandsIn g b s 
           until = _;
           is = z.0.is;
           makes = z.0.makes;
-          rests = λ i. board (o.0 i) t.index.now t.words.now (o.1 i) (z.1 i) (o.2 i) (o.3 i) (z.2 i);
+          rests = λ i. board (o.0 i) t.index.now t.words.now (o.1 i) (z.1 i) (fact_rows (o.2 i)) (fact_feet (o.2 i)) (z.2 i);
         },
         z.3,
       )

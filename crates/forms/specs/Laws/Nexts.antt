@@ -1,7 +1,6 @@
 -- A form of the proof that numbers its own fact: question 31 or 32, or what the form itself answers; and how many facts there are. Assumes nothing.
 use Rattle.std.specs.Prelude.{◌≡◌, refl, List, ℕ, ◌≤◌}
 use Rattle.std.proofs.Common.{◌∙◌}
-use Rattle.rules.specs.Limits.{FACTS}
 use Rattle.rules.specs.Out.{ok, refuse, then, Act}
 use Rattle.rules.specs.Sexp.{Sexps, count}
 use Rattle.rules.specs.Tags.{Tag, a_step, a_hyp, a_rule_hyp, an_induct, an_induct_with, an_apply, an_invert}
@@ -13,17 +12,12 @@ use Rattle.kernel.specs.Parsed.{TheoryLists}
 use Rattle.terms.specs.declared.store.Mark.{Mark}
 use Rattle.state.specs.declared.sizes.Sizes.{Sizes}
 use Rattle.state.specs.Stands.{Texts, Board, Stands}
-use Rattle.state.specs.FactLaws.{facts_tabled}
 use Rattle.forms.specs.Next.{OwnIndex}
 
 -- what `is_next` is given
 abbrev pub stands_own : {X : Texts} {T : TheoryLists} {B : Board} {n : Sizes} {m : Mark} {S : State} → Stands X T B n m S → {cells : List ℕ} {xs : Sexps} →
     Holds X.text cells xs → 2 ≤ count xs → OwnIndex X.text cells n
 stands_own {S = S} h {xs = xs} o l = record { S = S; xs = xs; holds = o; many = l; facts = h.recorded.many }
-
--- no more facts than there are rows
-pub facts_room : {X : Texts} {T : TheoryLists} {B : Board} {n : Sizes} {m : Mark} {S : State} → Stands X T B n m S → n.facts ≤ FACTS
-facts_room h = (facts_tabled h.recorded).few
 
 -- the forms behind their index
 pub data Numbers : Tag → (Sexps → Act State (Unit {0})) → Type 0 where

@@ -1,4 +1,5 @@
 -- A result that has come, from all tables to all tables: what `result` answers, where the tables stand for a state. Assumes nothing.
+use Rattle.state.specs.Records.{fact_rows, fact_feet}
 use Rattle.std.specs.Prelude.{◌≡◌, refl, List, ℕ, ◌≤◌, Result, Ok, Err}
 use Rattle.std.proofs.Common.{sym, subst}
 use Rattle.rules.specs.Out.{Out}
@@ -11,6 +12,7 @@ use Rattle.sexp.specs.Items.{Holds}
 use Rattle.terms.specs.declared.store.Mark.{Mark}
 use Rattle.terms.specs.Table.{made}
 use Rattle.state.specs.declared.sizes.Sizes.{Sizes}
+use Rattle.state.specs.Boards.{OnlyRows}
 use Rattle.state.specs.Held.{names}
 use Rattle.state.specs.Stands.{Texts, Board, board, Stands}
 use Rattle.state.specs.Updates.{stands_taken}
@@ -18,7 +20,7 @@ use Rattle.questions.specs.declared.Question.{Question}
 use Rattle.terms.specs.declared.store.Store.{Store}
 use Rattle.state.specs.declared.board.Given.{Given}
 use Rattle.state.specs.declared.board.Board.{Board as Lent}
-use Rattle.forms.specs.Boards.{StandsIn, OnlyRows, texts_of, theory_of}
+use Rattle.forms.specs.Boards.{StandsIn, texts_of, theory_of}
 use Rattle.forms.specs.Results.{TakesResult, ResultTaken, ResultedAs}
 use Rattle.forms.specs.Moved.{MovesIn, LeftIn}
 use Rattle.forms.specs.Laws.Leaving.{stands_makes}
@@ -50,7 +52,7 @@ module _ (g : Given) (b c : Lent) (s t : Store) {S : State} (h : StandsIn g b s 
         after = T;
         is = y.is;
         stands = subst (λ (x : Board × Sizes). Stands (texts_of g) (theory_of g) x.0 x.1 t.mark T)
-            (λ i. (board (sym o.0 i) t.index.now t.words.now (sym o.1 i) (sym y.rows_are i) (sym o.2 i) (sym o.3 i) (sym o.4 i), sym n i))
+            (λ i. (board (sym o.0 i) t.index.now t.words.now (sym o.1 i) (sym y.rows_are i) (fact_rows (sym o.2 i)) (fact_feet (sym o.2 i)) (sym o.3 i), sym n i))
             (stands_taken (stands_makes h y.makes) y.k y.goal);
         counted = refl;
       }
@@ -62,7 +64,7 @@ module _ (g : Given) (b c : Lent) (s t : Store) {S : State} (h : StandsIn g b s 
           until = _;
           is = z.0.is;
           makes = z.0.makes;
-          rests = λ i. board (o.0 i) t.index.now t.words.now (o.1 i) (z.1 i) (o.2 i) (o.3 i) (o.4 i);
+          rests = λ i. board (o.0 i) t.index.now t.words.now (o.1 i) (z.1 i) (fact_rows (o.2 i)) (fact_feet (o.2 i)) (o.3 i);
         },
         n,
       )

@@ -1,23 +1,28 @@
--- Lists of variables, each given once: what the definition answers, and what its members are. Assumes nothing.
+-- Lists of variables, each given once: what the definition answers, and what its members are; and lists of facts: one that is not there, hypotheses.
+-- Assumes nothing.
 use Rattle.std.proofs.Math.Path.{◌≡◌, refl, ap}
 use Rattle.std.proofs.Common.{sym, ◌∙◌, subst, true≢false, arith, eq-eqb, ne_eqb}
 use Rattle.std.specs.Prelude.{Bool, not, ◌||◌, List, [], ◌∷◌, ◌++◌, ℕ, zero, suc, ◌+◌, ◌<◌, ◌≤◌, eqb, length, Option, Some as some, None as nothing}
-use Rattle.std.proofs.Math.Bool.{true, false}
+use Rattle.std.proofs.Math.Bool.{true, false, or-false}
 use Rattle.std.proofs.lemmas.Bool.{false≢true}
 use Rattle.std.proofs.Math.Decide.{ℕ_discrete}
 use Rattle.rules.specs.Text.{same}
-use Rattle.rules.specs.Out.{then, ask, found}
-use Rattle.rules.specs.Find.{Set, has, union, rising_from}
+use Rattle.rules.specs.Out.{Out, ok, refuse, then, ask, found}
+use Rattle.rules.specs.Find.{Set, has, union, rising, rising_from, entry}
 use Rattle.rules.specs.Sexp.{Sexp, Sexps, atom, list, nil, cons, items}
-use Rattle.rules.specs.State.{State, Var, no_var, var_named}
+use Rattle.rules.specs.State.{State, Var, Fact, no_var, var_named, is_empty}
+use Rattle.rules.specs.Store.{Made}
+use Rattle.rules.specs.Reference.{hyp_each, hyp_list}
 use Rattle.rules.specs.Read.{others, vars_list}
 use Rattle.rules.specs.Laws.Theory.{All, empty, both, all_snoc}
 use Rattle.rules.specs.Laws.Find.{first_some}
 use Rattle.rules.specs.Laws.Set.{or_right, rising_from_agree, rising_from_none}
+use Rattle.rules.specs.Laws.Rising.{rising_rises, rising_all_of}
 use Rattle.rules.specs.Laws.Members.{has_append}
 use Rattle.sexp.specs.Never.{never}
 use Rattle.terms.specs.Sets.{plus}
-use Rattle.terms.specs.Laws.Sets.{or_false, plus_has}
+use Rattle.terms.specs.Laws.Sets.{plus_has}
+use Rattle.state.specs.Members.{rising_few, rises_rising}
 use Rattle.reading.specs.Items.{variable_in, variable_found, one_more, others_in, vars_in}
 
 -- Numbers, each once -------------------------------------------------------------------------------------------------------------------
@@ -48,17 +53,6 @@ once_snoc (u ∷ us) v o e =
     let d : u ≡ v → ⊥ = λ q. true≢false (sym (eq-eqb v u (sym q)) ∙ n.0) in
     (ap (λ (s : Set). s u) (has_snoc us v) ∙ (λ i. o.0 i || ne_eqb u v d i), once_snoc us v o.1 n.1)
 
--- a set has no more members below n than n
-rising_most : (k n : ℕ) (a : Set) → length (rising_from k n a) ≤ n
-unfolding rising_from
-rising_most k zero a = omega arith
-rising_most k (suc n) a = go (a k) (rising_most (suc k) n a)
-  where
-    go : (b : Bool) → length (rising_from (suc k) n a) ≤ n →
-        length {A = ℕ} (elim b [ true ↦ k ∷ rising_from (suc k) n a | false ↦ rising_from (suc k) n a ]) ≤ suc n
-    go true h = omega (arith, h)
-    go false h = omega (arith, h)
-
 -- one more where a number joins that was not there
 one_more_lem : (k : ℕ) (ms ls : List ℕ) (b : Bool) → length ms ≡ suc (length ls) →
     length {A = ℕ} (elim b [ true ↦ k ∷ ms | false ↦ ms ]) ≡ suc (length {A = ℕ} (elim b [ true ↦ k ∷ ls | false ↦ ls ]))
@@ -73,11 +67,11 @@ rising_plus k (suc n) v a l m f = elim (ℕ_discrete k v) [
       ap (λ (b : Bool). length {A = ℕ} (elim b [ true ↦ k ∷ rising_from (suc k) n (plus v a) | false ↦ rising_from (suc k) n (plus v a) ]))
       (or_right (a k) (eqb k v) (eq-eqb k v e))
       ∙ ap (λ (l : List ℕ). suc (length l)) (rising_from_agree (suc k) n (plus v a) a
-      (λ w p q. ap (λ (b : Bool). a w || b) (ne_eqb w v (λ z. omega (arith, e))) ∙ or_false (a w)))
+      (λ w p q. ap (λ (b : Bool). a w || b) (ne_eqb w v (λ z. omega (arith, e))) ∙ or-false (a w)))
       ∙ sym (ap (λ (b : Bool). suc (length {A = ℕ} (elim b [ true ↦ k ∷ rising_from (suc k) n a | false ↦ rising_from (suc k) n a ]))) (ap a e ∙ f))
   | no q ↦
       ap (λ (b : Bool). length {A = ℕ} (elim b [ true ↦ k ∷ rising_from (suc k) n (plus v a) | false ↦ rising_from (suc k) n (plus v a) ]))
-      (ap (λ (b : Bool). a k || b) (ne_eqb k v q) ∙ or_false (a k))
+      (ap (λ (b : Bool). a k || b) (ne_eqb k v q) ∙ or-false (a k))
       ∙ one_more_lem k (rising_from (suc k) n (plus v a)) (rising_from (suc k) n a) (a k)
       (rising_plus (suc k) n v a (omega (arith, q, l)) (omega (arith, m)) f)
 ]
@@ -101,7 +95,8 @@ listing_none n = record { below = empty; once = tt }
 module _ {n : ℕ} {us : List ℕ} (h : Listing n us) where
   -- so there are at most n
   pub listing_few : length us ≤ n
-  listing_few = let e = once_count n us h.once h.below in let m = rising_most 0 n (has us) in omega arith
+  unfolding rising
+  listing_few = let e = once_count n us h.once h.below in let m = rising_few n (has us) in omega arith
 
   pub listing_more : (v : ℕ) → v < n → has us v ≡ false → Listing n (us ++ (v ∷ []))
   listing_more v l e = record { below = all_snoc h.below l; once = once_snoc us v h.once e }
@@ -203,3 +198,39 @@ pub vars_listed : (vs : List Var) (x : Sexp) (us : List ℕ) → vars_in vs x �
 unfolding vars_in
 vars_listed vs (atom p bs) us e = never cc
 vars_listed vs (list xs) us e = others_listed vs xs [] us (listing_none (length vs)) e
+
+-- Lists of numbers ----------------------------------------------------------------------------------------------------------------------
+
+pub empty_is : (xs : List ℕ) → length xs ≡ 0 → is_empty xs ≡ true
+unfolding is_empty
+empty_is [] e = refl
+empty_is (x ∷ xs) e = absurd (omega arith)
+
+pub empty_not : (xs : List ℕ) → (length xs ≡ 0 → ⊥) → is_empty xs ≡ false
+unfolding is_empty
+empty_not [] e = absurd (e refl)
+empty_not (x ∷ xs) e = refl
+
+-- Facts --------------------------------------------------------------------------------------------------------------------------------
+
+pub no_entry : {A : Type 0} (xs : List A) (i : ℕ) → length xs ≤ i → entry xs i ≡ nothing
+unfolding entry
+no_entry [] i l = refl
+no_entry (x ∷ xs) zero l = absurd (omega arith)
+no_entry (x ∷ xs) (suc i) l = no_entry xs i (omega arith)
+
+-- a list of hypotheses rises
+rising_again : (n : ℕ) (a : Set) → rising n a ≡ rising n (has (rising n a))
+rising_again n a = sym (rises_rising n (rising n a) (rising_rises n a) (rising_all_of n a (λ v l e. l)))
+
+ok_rises : (n : ℕ) (o : Out Made (List ℕ)) (hs : List ℕ) (U : Made) → then o (λ is N. ok (rising n (has is)) N) ≡ ok hs U → hs ≡ rising n (has hs)
+unfolding then
+ok_rises n (ok is N) hs U e =
+    let q : rising n (has is) ≡ hs = cc in
+    sym q ∙ rising_again n (has is) ∙ ap (λ (xs : List ℕ). rising n (has xs)) q
+ok_rises n (refuse q d N) hs U e = never cc
+
+pub listed_rises : (p : Fact → Bool) (S : State) (x : Sexp) (hs : List ℕ) (U : Made) → hyp_list p S x U ≡ ok hs U → hs ≡ rising (length S.facts) (has hs)
+unfolding hyp_list items then
+listed_rises p S (atom b bs) hs U e = never cc
+listed_rises p S (list xs) hs U e = ok_rises (length S.facts) (hyp_each p S xs U) hs U e

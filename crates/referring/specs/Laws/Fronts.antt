@@ -3,6 +3,7 @@ use Rattle.std.specs.Prelude.{◌≡◌, List, ◌++◌, ℕ, ◌+◌, ◌-◌, 
 use Rattle.std.proofs.Common.{sym, ap, ◌∙◌, arith, take-append-drop, length-take-le, take_at, drop_at}
 use Rattle.std.proofs.lemmas.List.{length-replicate, replicate-append-replicate}
 use Rattle.std.proofs.Math.Seq.{length_front}
+use Rattle.terms.specs.Laws.Zeros.{zeros_long}
 
 -- the first k of n zeros
 take_zeros : (k n : ℕ) → k ≤ n → take k (replicate n 0) ≡ replicate {A = ℕ} k 0
@@ -11,9 +12,6 @@ take_zeros k n h =
     ap (λ (j : ℕ). take k (replicate j 0)) e
     ∙ ap (take k) (sym (replicate-append-replicate k (n - k) 0))
     ∙ take_at (replicate k 0) (replicate (n - k) 0) k (length-replicate k 0)
-
-pub zeros_long : (n : ℕ) {ids : List ℕ} → ids ≡ replicate n 0 → length ids ≡ n
-zeros_long n z = ap length z ∙ length-replicate n 0
 
 -- the first k cells are lent
 module _ (n : ℕ) {ids : List ℕ} (z : ids ≡ replicate n 0) (k : ℕ) (h : k ≤ n) where

@@ -1,10 +1,9 @@
 -- What an action leaves readable where references are read: the store has grown, and texts and tables stand for the same state, facts included.
 -- And what the functions that read a part of it are given. Assumes nothing.
-use Rattle.std.specs.Prelude.{◌≡◌, refl, List, [], ◌∷◌, ℕ, zero, suc, ◌<◌, ◌≤◌, length, Option, None as nothing}
+use Rattle.std.specs.Prelude.{◌≡◌, List, [], ℕ, ◌<◌, ◌≤◌, length, Option}
 use Rattle.std.proofs.Common.{arith}
 use Rattle.std.proofs.Math.Path.{ap}
 use Rattle.rules.specs.Out.{Out, ok, refuse, found}
-use Rattle.rules.specs.Find.{entry}
 use Rattle.rules.specs.Sexp.{Sexp, Sexps, cons}
 use Rattle.rules.specs.Tree.{Tree, Trees}
 use Rattle.rules.specs.Store.{Made}
@@ -31,6 +30,7 @@ use Rattle.state.specs.Growth.{grows_ok, grows_refuse, recorded_on}
 use Rattle.reading.specs.Given.{FactsItem}
 use Rattle.referring.specs.Recall.{fact_of, Recalls, RecallsFact, BareItem, Refers, RefersItem, RefersItems}
 use Rattle.reading.specs.Laws.Reading.{reads_on}
+use Rattle.reading.specs.Laws.Lists.{no_entry}
 
 -- Each takes the items that are read, then the answer of the call: refers_reference h x w.
 module _ {K : Names} {facts footings lists : List ℕ} {n : Sizes} {I W : List ℕ} {m : Mark} {S : State} (h : Refers K facts footings lists n I W m S) where
@@ -118,12 +118,6 @@ module _ {K : Names} {facts footings lists : List ℕ} {n : Sizes} {I W : List �
   refers_earlier l = refers_fact (omega (arith, l, h.recorded.many))
 
 -- A fact that is named ------------------------------------------------------------------------------------------------------------------
-
-pub no_entry : {A : Type 0} (xs : List A) (i : ℕ) → length xs ≤ i → entry xs i ≡ nothing
-unfolding entry
-no_entry [] i l = refl
-no_entry (x ∷ xs) zero l = absurd (omega arith)
-no_entry (x ∷ xs) (suc i) l = no_entry xs i (omega arith)
 
 module _ {R : Records} {n : Sizes} {M : Made} {S : State} (h : Recorded R n M S) {i : ℕ} where
   pub fact_here : i < n.facts → i < length S.facts

@@ -1,66 +1,30 @@
 -- Terms that are put under one substitution, each in turn: what of it a caller needs for one that it puts there itself, and trees by their numbers, one more
 -- at each turn. Assumes nothing.
 use Rattle.std.specs.Prelude.{◌≡◌, replicate, Result, Ok, Err}
-use Rattle.std.proofs.Math.Path.{refl, sym, ap, subst}
+use Rattle.std.proofs.Math.Path.{refl, sym, ap}
 use Rattle.std.proofs.Common.{◌∙◌}
-use mathlib.Core.List.{List, [], ◌∷◌, ◌++◌}
+use mathlib.Core.List.{List, [], ◌∷◌}
 use Prim.Native.Nat.{ℕ, suc, ◌<◌, ◌≤◌}
 use native.Mathlib.Omega.{arith}
-use native.Mathlib.Decide.{dec_lt}
-use Rattle.std.proofs.Math.ListN.{length, get_or, length-append}
-use lib.ListN.{get_or-append}
-use lib.Seq.{get_or-append_seam}
+use Rattle.std.proofs.Math.ListN.{length, get_or}
 use Rattle.std.proofs.lemmas.List.{length-replicate}
 use Rattle.rules.specs.Limits.{TERMS}
 use Rattle.rules.specs.Out.{ok}
-use Rattle.rules.specs.Tree.{Tree, Trees, var, none, more}
-use Rattle.rules.specs.Store.{Made, substitute}
+use Rattle.rules.specs.Tree.{Tree, Trees, more}
+use Rattle.rules.specs.Store.{substitute}
 use Rattle.questions.specs.Numbers.{row_number}
 use Rattle.questions.specs.declared.Row.{Row}
 use Rattle.terms.specs.declared.store.Mark.{Mark}
-use Rattle.terms.specs.Table.{made, tree, args_of, Good, Grown, After}
+use Rattle.terms.specs.Table.{Below, made, tree, Good, Grown, After}
 use Rattle.terms.specs.Subst.{replacement, substituted, Replaceable}
 use Rattle.terms.specs.On.{Went, Stopped}
+use Rattle.terms.specs.Laws.Below.{ahead}
 use Rattle.terms.specs.Laws.Answers.{after_term, after_full}
 use Rattle.terms.specs.Laws.Growth.{grown_tree, grown_there}
 use Rattle.terms.specs.Laws.Numbers.{stored_is}
 use Rattle.terms.specs.Laws.Theta.{replacement_grown}
-use Rattle.referring.specs.Substitutes.{Below}
-
--- Numbers below another ----------------------------------------------------------------------------------------------------------------------
-
-pub below_none : {n : ℕ} → Below n []
-below_none k l = absurd (let z : k < 0 = l in omega arith)
-
--- one number more
-pub below_snoc : {n : ℕ} (xs : List ℕ) {t : ℕ} → Below n xs → t < n → Below n (xs ++ (t ∷ []))
-below_snoc {n} xs {t} b l k h =
-    let z = length-append xs (t ∷ []) in
-    elim (dec_lt k (length xs)) [
-      | yes p ↦ subst (λ (v : ℕ). v < n) (sym (get_or-append xs (t ∷ []) 0 k p)) (b k p)
-      | no q ↦
-          let e : k ≡ length xs = omega arith in
-          subst (λ (v : ℕ). v < n) (sym (ap (λ (i : ℕ). get_or (xs ++ (t ∷ [])) i 0) e ∙ get_or-append_seam xs t [] 0)) l
-    ]
-
-pub below_grown : {m n : ℕ} (xs : List ℕ) → m ≤ n → Below m xs → Below n xs
-below_grown xs l b k h = omega (arith, b k h)
 
 -- Trees by their numbers, ahead of others --------------------------------------------------------------------------------------------------
-
-unfoldable pub ahead : Made → List ℕ → Trees → Trees
-ahead M [] ts = ts
-ahead M (n ∷ ns) ts = more (get_or M n (var 0)) (ahead M ns ts)
-
-pub ahead_none : (M : Made) (ns : List ℕ) → ahead M ns none ≡ args_of M ns
-unfolding ahead args_of
-ahead_none M [] = refl
-ahead_none M (n ∷ ns) = ap (more (get_or M n (var 0))) (ahead_none M ns)
-
-pub ahead_snoc : (M : Made) (ns : List ℕ) (t : ℕ) (ts : Trees) → ahead M (ns ++ (t ∷ [])) ts ≡ ahead M ns (more (get_or M t (var 0)) ts)
-unfolding ahead
-ahead_snoc M [] t ts = refl
-ahead_snoc M (n ∷ ns) t ts = ap (more (get_or M n (var 0))) (ahead_snoc M ns t ts)
 
 pub ahead_grown : {I W J X : List ℕ} {old new : Mark} → Grown I W J X old new → (ns : List ℕ) → Below old.terms ns → (ts : Trees) →
     ahead (made J X new) ns ts ≡ ahead (made I W old) ns ts

@@ -1,7 +1,6 @@
-use Rattle.std.specs.Prelude.{length}
 use Rattle.kernel.specs.Parsed.{theory_lists}
 use Rattle.running.specs.Lent.{working}
-use Rattle.schematic.proofs.Whole.{all_long, short}
+use Rattle.schematic.proofs.Whole.{short}
 use Rattle.schematic.proofs.check.Goals as goal
 
 pub returns-then-not-fits : goal.returns-then-not-fits
@@ -11,10 +10,3 @@ returns-then-not-fits c =
     (theory_lists c.args.sorts.now c.args.symbols.now c.args.inputs.now c.args.rules.now c.args.rulevars.now c.args.patterns.now)
     (working c.args.vars.now c.args.index.now c.args.words.now c.args.defs.now c.args.rows.now c.args.lists.now) c.args.missing.now c.args.facts.now
     (c.fits.ensures.no c.if-not-fits.true))
-
-pub check_fit-requires : goal.check_fit-requires
-check_fit-requires c =
-    all_long (length c.args.facts.now)
-    (theory_lists c.args.sorts.now c.args.symbols.now c.args.inputs.now c.args.rules.now c.args.rulevars.now c.args.patterns.now)
-    (working c.args.vars.now c.args.index.now c.args.words.now c.args.defs.now c.args.rows.now c.args.lists.now) c.args.missing.now
-    (c.fits.ensures.yes c.if-not-fits.false)

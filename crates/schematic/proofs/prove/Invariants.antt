@@ -1,14 +1,13 @@
-use Rattle.std.specs.Prelude.{◌≡◌, ◌-◌, length, drop}
-use Rattle.rules.specs.Limits.{FACTS}
+use Rattle.std.specs.Prelude.{◌-◌, length}
 use Rattle.terms.specs.Lent.{SameTables}
-use Rattle.forms.specs.Boards.{SameBoard}
+use Rattle.state.specs.Boards.{SameBoard}
 use Rattle.advancing.specs.Stepped.{IdleIn, SameScratch}
 use Rattle.schematic.specs.Ran.{Kept}
 use Rattle.schematic.proofs.prove.Given as goal
 
 abbrev pub invariant-loop-step : goal.invariant-loop-step
 invariant-loop-step l =
-    Kept l.given l.board l.store l.at l.forms l.facts l.counts × (drop FACTS l.facts ≡ drop FACTS l.initial.facts) × IdleIn l.scratch
+    Kept l.given l.board l.store l.at l.forms l.counts × IdleIn l.scratch
     × SameBoard l.initial.board l.board × SameTables l.initial.store l.store × SameScratch l.initial.scratch l.scratch
 
 abbrev pub decreases-loop-step : goal.decreases-loop-step

@@ -5,7 +5,7 @@ use native.Mathlib.Omega.{arith}
 use lib.ListN.{length}
 use lib.Seq.{sets}
 use Rattle.state.proofs.Stores.{stored_part}
-use Rattle.tabled.proofs.Rowing.{four_words}
+use Rattle.state.specs.Records.{four_words}
 use Rattle.tabled.proofs.put_foot.Goals as goal
 
 pub returns : goal.returns

@@ -70,18 +70,19 @@ module _ (M : Made) (B : List ℕ) (v id : ℕ) (c : Cells (length M) B) (l : v 
 
 -- Growth -------------------------------------------------------------------------------------------------------------------------------
 
-module _ {I W J X : List ℕ} {old new : Mark} (w : Grown I W J X old new) {B : List ℕ} (c : Cells old.terms B) where
-  tree_in_lem : (x : ℕ) → x ≤ old.terms → tree_in (made J X new) x ≡ tree_in (made I W old) x
+module _ {I W J X : List ℕ} {old new : Mark} (w : Grown I W J X old new) where
+  pub tree_in_grown : (x : ℕ) → x ≤ old.terms → tree_in (made J X new) x ≡ tree_in (made I W old) x
   unfolding tree_in
-  tree_in_lem zero l = refl
-  tree_in_lem (suc x) l = ap some (grown_tree w x l)
+  tree_in_grown zero l = refl
+  tree_in_grown (suc x) l = ap some (grown_tree w x l)
 
-  pub bound_grown : bound_of (made J X new) B ≡ bound_of (made I W old) B
-  unfolding bound_of
-  bound_grown = λ i v. tree_in_lem (get_or B v 0) (c.within v) i
+  module _ {B : List ℕ} (c : Cells old.terms B) where
+    pub bound_grown : bound_of (made J X new) B ≡ bound_of (made I W old) B
+    unfolding bound_of
+    bound_grown = λ i v. tree_in_grown (get_or B v 0) (c.within v) i
 
-  pub cells_grown : Cells new.terms B
-  cells_grown = let l = w.more in record { long = c.long; within = λ v. let z = c.within v in omega arith }
+    pub cells_grown : Cells new.terms B
+    cells_grown = let l = w.more in record { long = c.long; within = λ v. let z = c.within v in omega arith }
 
 -- Building -----------------------------------------------------------------------------------------------------------------------------
 

@@ -2,7 +2,7 @@
 -- Assumes nothing.
 use Rattle.std.specs.Prelude.{◌≡◌, List, [], ◌∷◌, ◌++◌, length, drop, replicate}
 use Rattle.std.proofs.Math.Path.{refl, sym, ap}
-use Rattle.std.proofs.Common.{◌∙◌, append-nil, append_assoc, length-drop, take-append-drop, take-suc, take_all, take-take, length-take-le, ext_get_or, get_or-drop, get_or-take}
+use Rattle.std.proofs.Common.{◌∙◌, append-nil, append_assoc, length-drop, take-append-drop, take-suc, take-take, length-take-le, ext_get_or, get_or-drop, get_or-take}
 use Prim.Native.Nat.{ℕ, zero, suc, ◌+◌, ◌-◌, ◌≤◌, ◌<◌, ◌*◌}
 use native.Mathlib.Omega.{arith}
 use Rattle.std.proofs.Math.ListN.{get_or, take}
@@ -14,6 +14,7 @@ use Rattle.rules.specs.Store.{Made, words}
 use Rattle.rules.specs.Laws.Store.{Apart, words_more}
 use Rattle.rules.specs.TheoryTables.{filled}
 use Rattle.rules.specs.StateTables.{node_cells, word_cells, end_cells}
+use Rattle.rules.specs.Laws.Row.{filled_fits}
 use Rattle.terms.specs.declared.store.Mark.{Mark}
 use Rattle.terms.specs.Table.{start, node_at, tree_at, trees, made, Shaped, is_var, is_app, Good, settled}
 use Rattle.terms.specs.Laws.Tables.{length_trees, get_d_trees, tree_here, tree_app, tree_var, tree_node, node_length}
@@ -53,10 +54,6 @@ zeros_from l n h z =
     (ext_get_or 0 (drop n l) (replicate (length l - n) 0) (omega arith)
     (λ i p. get_or-drop n l i 0 ∙ z (n + i) (omega arith) (omega arith) ∙ sym (get_or-replicate (length l - n) i 0 0 (omega arith))))
 
-fill_law : (n : ℕ) (xs : List ℕ) → length xs ≤ n → filled n xs ≡ xs ++ replicate (n - length xs) 0
-unfolding filled
-fill_law n xs h = ap (λ (r : List ℕ). r ++ replicate (n - length xs) 0) (take_all n xs h)
-
 module _ {I W : List ℕ} {m : Mark} (g : Good I W m) where
   node_of : (i : ℕ) → i < m.terms → node_cells (made I W m) (tree_at (trees I W i) (node_at I W i)) ≡ node_at I W i
   node_of i h =
@@ -84,7 +81,7 @@ module _ {I W : List ℕ} {m : Mark} (g : Good I W m) where
       let f : length W - m.words ≡ WORDS - length (word_cells (made I W m) (made I W m)) = omega arith in
       zeros_from W m.words (omega arith) (λ i p q. g.no_words i p)
       ∙ (λ i. c i ++ replicate (f i) 0)
-      ∙ sym (fill_law WORDS (word_cells (made I W m) (made I W m)) (omega arith))
+      ∙ sym (filled_fits WORDS (word_cells (made I W m) (made I W m)) (omega arith))
 
   ends_to : (n : ℕ) → n ≤ m.terms → (take n I ≡ end_cells 0 (trees I W n)) × (words (trees I W n) ≡ start I n)
   unfolding trees start end_cells words
@@ -120,15 +117,15 @@ module _ {I W : List ℕ} {m : Mark} (g : Good I W m) where
       let f : length (take TERMS I) - m.terms ≡ TERMS - length (end_cells 0 (made I W m)) = omega arith in
       zeros_from (take TERMS I) m.terms (omega arith) (λ i p q. get_or-take TERMS I i 0 (omega arith) ∙ g.no_ends i p (omega arith))
       ∙ (λ i. c i ++ replicate (f i) 0)
-      ∙ sym (fill_law TERMS (end_cells 0 (made I W m)) (omega arith))
+      ∙ sym (filled_fits TERMS (end_cells 0 (made I W m)) (omega arith))
 
 -- zeros behind a table that is filled up already
 fill_more : (k n : ℕ) (xs : List ℕ) → length xs ≤ k → filled k xs ++ replicate n 0 ≡ filled (k + n) xs
 fill_more k n xs h =
     let e : k - length xs + n ≡ k + n - length xs = omega arith in
-    ap (λ (r : List ℕ). r ++ replicate n 0) (fill_law k xs h) ∙ append_assoc xs (replicate (k - length xs) 0) (replicate n 0)
+    ap (λ (r : List ℕ). r ++ replicate n 0) (filled_fits k xs h) ∙ append_assoc xs (replicate (k - length xs) 0) (replicate n 0)
     ∙ ap (λ (r : List ℕ). xs ++ r) (replicate-append-replicate (k - length xs) n 0 ∙ ap (λ (j : ℕ). replicate j 0) e)
-    ∙ sym (fill_law (k + n) xs (omega arith))
+    ∙ sym (filled_fits (k + n) xs (omega arith))
 
 -- the index without its look-up part is the table that is left after a check
 pub settled_is : {I W : List ℕ} {m : Mark} → Good I W m → settled I ≡ filled (4 * TERMS) (end_cells 0 (made I W m))

@@ -53,6 +53,11 @@ unfoldable pub before : Trees → Trees → Trees
 before none us = us
 before (more t ts) us = more t (before ts us)
 
+pub before_none : (ts : Trees) → before ts none ≡ ts
+unfolding before
+before_none none = refl
+before_none (more t ts) = ap (more t) (before_none ts)
+
 pub before_count : (ts us : Trees) → count_trees (before ts us) ≡ count_trees ts + count_trees us
 unfolding before count_trees
 before_count none us = omega arith

@@ -2,7 +2,7 @@
 use Rattle.std.specs.Prelude.{◌≡◌, refl, Bool, ◌||◌, List, [], ◌∷◌, ℕ, ◌+◌, ◌*◌, ◌/◌, ◌%◌, ◌<◌, zero, suc, ◌≤◌, ◌^◌, eqb, get_or, replicate, length}
 use Rattle.std.proofs.Common.{sym, ◌∙◌, arith, ext_get_or, eq-eqb, ne_eqb}
 use Rattle.std.proofs.Math.Path.{ap}
-use Rattle.std.proofs.Math.Bool.{true, false}
+use Rattle.std.proofs.Math.Bool.{true, false, or_assoc, or_comm}
 use Rattle.std.proofs.Math.Decide.{ℕ_discrete, dec_lt}
 use Rattle.std.proofs.Math.ListN.{get_or-eq_default}
 use Rattle.rules.specs.Find.{empty, Set, has, union, rising}
@@ -16,10 +16,6 @@ use Rattle.terms.specs.Laws.Zeros.{get_d_zeros}
 
 pub eqb_iff : (a b c d : ℕ) → (a ≡ b → c ≡ d) → (c ≡ d → a ≡ b) → eqb a b ≡ eqb c d
 eqb_iff a b c d f g = elim (ℕ_discrete a b) [ yes p ↦ eq-eqb a b p ∙ sym (eq-eqb c d (f p)) | no q ↦ ne_eqb a b q ∙ sym (ne_eqb c d (λ e. q (g e))) ]
-
-pub or_false : (b : Bool) → b || false ≡ b
-or_false true = refl
-or_false false = refl
 
 -- the digits of word i are the members from 64 * i on
 pub word_digit : (s : List ℕ) (i v : ℕ) → v < 64 → holds s (64 * i + v) ≡ digit (get_or s i 0) v
@@ -52,21 +48,21 @@ pub plus_has : (x : ℕ) (xs : List ℕ) → has (x ∷ xs) ≡ plus x (has xs)
 unfolding has
 plus_has x xs = λ i v. plus_or (eqb v x) (has xs v) i
 
-or_swap : (p q r : Bool) → p || (q || r) ≡ (p || q) || r
-or_swap true q r = refl
-or_swap false q r = refl
+-- the last of three goes before the second
+pub or_last : (p q r : Bool) → (p || q) || r ≡ p || (r || q)
+or_last p q r = or_assoc p q r ∙ ap (λ (b : Bool). p || b) (or_comm q r)
 
 pub plus_union : (v : ℕ) (a b : Set) → union a (plus v b) ≡ plus v (union a b)
-plus_union v a b = λ i w. or_swap (a w) (b w) (eqb w v) i
+plus_union v a b = λ i w. sym (or_assoc (a w) (b w) (eqb w v)) i
 
 -- The words of a list that rises -----------------------------------------------------------------------------------------------------------
 
-has_under : (xs : List ℕ) (k v : ℕ) → RisesFrom k xs → v < k → has xs v ≡ false
+pub has_below : (xs : List ℕ) (k v : ℕ) → RisesFrom k xs → v < k → has xs v ≡ false
 unfolding RisesFrom has
-has_under [] k v h l = refl
-has_under (x ∷ xs) k v h l =
+has_below [] k v h l = refl
+has_below (x ∷ xs) k v h l =
     let p = h.0 in
-    ap (λ (b : Bool). elim b [ true ↦ true | false ↦ has xs v ]) (ne_eqb v x (λ e. omega arith)) ∙ has_under xs (suc x) v h.1 (omega arith)
+    ap (λ (b : Bool). elim b [ true ↦ true | false ↦ has xs v ]) (ne_eqb v x (λ e. omega arith)) ∙ has_below xs (suc x) v h.1 (omega arith)
 
 -- the number at the front, in its word or in another
 module _ (x : ℕ) (xs : List ℕ) (k : ℕ) where
@@ -80,7 +76,7 @@ module _ (x : ℕ) (xs : List ℕ) (k : ℕ) where
 
   -- the bit that comes in was not set
   bit_free : RisesFrom (suc x) xs → x / 64 ≡ k → digit (bit_word xs k) (x % 64) ≡ has xs (64 * k + x % 64) → digit (bit_word xs k) (x % 64) ≡ false
-  bit_free h e ih = let z : 64 * k + x % 64 ≡ x = omega arith in ih ∙ ap (has xs) z ∙ has_under xs (suc x) x h (omega arith)
+  bit_free h e ih = let z : 64 * k + x % 64 ≡ x = omega arith in ih ∙ ap (has xs) z ∙ has_below xs (suc x) x h (omega arith)
 
 -- bit j of word k is the member 64 * k + j
 pub bit_digit : (xs : List ℕ) (lo : ℕ) → RisesFrom lo xs → (k j : ℕ) → j < 64 → digit (bit_word xs k) j ≡ has xs (64 * k + j)

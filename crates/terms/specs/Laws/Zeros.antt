@@ -11,6 +11,14 @@ get_d_zeros n i = elim (dec_lt i n) [
   | no q ↦ get_or-eq_default (replicate n 0) 0 {n = i} (let z = length-replicate {A = ℕ} n 0 in omega arith)
 ]
 
+pub zeros_long : (n : ℕ) {xs : List ℕ} → xs ≡ replicate n 0 → length xs ≡ n
+zeros_long n e = ap length e ∙ length-replicate n 0
+
+-- cells that were zero, written and cleared
+pub zero_again : {before : List ℕ} (out : List ℕ) {last : List ℕ} → before ≡ replicate (length before) 0 → length out ≡ length before →
+    last ≡ replicate (length out) 0 → last ≡ before
+zero_again out b k c = c ∙ ap (λ (n : ℕ). replicate n 0) k ∙ sym b
+
 -- a part of zeros
 module _ (memo : List ℕ) (n : ℕ) (h : n ≤ length memo) (z : memo ≡ replicate (length memo) 0) where
   pub part_long : n ≡ length (take n memo)

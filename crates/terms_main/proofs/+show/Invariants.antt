@@ -1,5 +1,5 @@
 -- An argument has a smaller number, so the calls end.
-use Rattle.terms_main.proofs.Nodes.{Below}
+use Rattle.terms.specs.Table.{Below}
 use Rattle.terms_main.proofs.+show.Given as goal
 
 abbrev pub decreases-show : goal.decreases-show

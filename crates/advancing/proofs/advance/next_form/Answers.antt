@@ -1,7 +1,7 @@
 use Rattle.std.specs.Prelude.{refl}
 use Rattle.std.proofs.lemmas.Result.{err_from_is_err_and}
 use Rattle.cells.specs.Cleared.{front_cleared}
-use Rattle.advancing.proofs.Steps.{read_asks, at_the_end, at_unread, form_asks, used_inside, cleared, form_refused, refused_stay, stored_asks, taken_stay, form_taken}
+use Rattle.advancing.proofs.Steps.{read_asks, at_the_end, at_unread, form_asks, used_inside, cleared, form_refused, refused_stay, taken_stay, form_taken}
 use Rattle.advancing.proofs.advance.next_form.Goals as goal
 
 pub read_form-requires-clause-legible : goal.read_form-requires-clause-legible
@@ -51,19 +51,12 @@ returns-in_err-counts-clause-idle_again c =
     let z = c.take_form-taken.ensures.spare_unchanged in
     cleared c.requires.ready c.requires.idle c.read_form.ensures e (front_cleared 0 _ _ (used_inside c.requires.ready c.requires.idle c.read_form.ensures e) c.clear.ensures) z.0 z.1
 
-pub stored-requires : goal.stored-requires
-stored-requires c =
-    let w = c.in_ok-form.was in
-    let e = rw c.in-Some.is at w in
-    stored_asks c.requires.ready c.requires.idle c.read_form.ensures e c.take_form-taken.new.board c.take_form-taken.new.store _
-    (c.in_ok-counts.ensures.taken_as (form_asks c.requires.ready c.requires.idle c.read_form.ensures e))
-
 pub returns-clause-advanced : goal.returns-clause-advanced
 returns-clause-advanced c =
     let w = c.in_ok-form.was in
     let e = rw c.in-Some.is at w in
     λ g. form_taken g c.requires.idle c.read_form.ensures e c.take_form-taken.new.board c.take_form-taken.new.store _
-    (c.in_ok-counts.ensures.taken_as (form_asks g c.requires.idle c.read_form.ensures e)) c.stored.ensures
+    (c.in_ok-counts.ensures.taken_as (form_asks g c.requires.idle c.read_form.ensures e))
 
 pub returns-clause-stay : goal.returns-clause-stay
 returns-clause-stay c =

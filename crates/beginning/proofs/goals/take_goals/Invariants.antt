@@ -1,6 +1,6 @@
 use Rattle.std.specs.Prelude.{◌-◌, length}
 use Rattle.terms.specs.Lent.{SameTables}
-use Rattle.forms.specs.Boards.{SameBoard}
+use Rattle.state.specs.Boards.{SameBoard}
 use Rattle.beginning.proofs.Turns.{Turn}
 use Rattle.beginning.proofs.goals.take_goals.Given as goal
 

@@ -25,28 +25,28 @@ loop-init c = record {
 }
 
 pub build-requires : goal.build-requires
-build-requires c = premising_asks c.requires.0.1 c.requires.1 (premising_first (c.loop.invariant.premising _ c.requires.0.1) (more_left c.loop-test.true))
+build-requires c = rw c.patterns.ensures (premising_asks c.requires.0.1 c.requires.1 (premising_first (c.loop.invariant.premising _ c.requires.0.1) (more_left c.loop-test.true)))
 
 pub returns-in_err-premise-clause-premises_as : goal.returns-in_err-premise-clause-premises_as
 returns-in_err-premise-clause-premises_as c = λ n g.
     rw (handed c.from_residual.result c.from_residual.ensures)
-    (premising_unbuilt g c.requires.1 (premising_first (c.loop.invariant.premising n g) (more_left c.loop-test.true)) c.in_err-premise.ensures.built)
+    (premising_unbuilt g c.requires.1 (premising_first (c.loop.invariant.premising n g) (more_left c.loop-test.true)) (rw c.patterns.ensures at c.in_err-premise.ensures.built))
 
 pub substitute-requires-clause-replaceable : goal.substitute-requires-clause-replaceable
 substitute-requires-clause-replaceable c =
     let h = premising_first (c.loop.invariant.premising _ c.requires.0.1) (more_left c.loop-test.true) in
-    premising_replaces c.requires.0.1 c.requires.1 h c.in_ok-premise.ensures.built
+    premising_replaces c.requires.0.1 c.requires.1 h (rw c.patterns.ensures at c.in_ok-premise.ensures.built)
 
 pub substitute-requires-clause-id_in_bounds : goal.substitute-requires-clause-id_in_bounds
 substitute-requires-clause-id_in_bounds c =
     let h = premising_first (c.loop.invariant.premising _ c.requires.0.1) (more_left c.loop-test.true) in
-    memo_asked (premising_good c.requires.0.1 c.requires.1 h c.in_ok-premise.ensures.built) c.requires.2 c.loop.invariant.memo_same
-    (premising_there c.requires.0.1 c.requires.1 h c.in_ok-premise.ensures.built)
+    memo_asked (premising_good c.requires.0.1 c.requires.1 h (rw c.patterns.ensures at c.in_ok-premise.ensures.built)) c.requires.2 c.loop.invariant.memo_same
+    (premising_there c.requires.0.1 c.requires.1 h (rw c.patterns.ensures at c.in_ok-premise.ensures.built))
 
 pub returns-in_err-t-clause-premises_as : goal.returns-in_err-t-clause-premises_as
 returns-in_err-t-clause-premises_as c = λ n g.
     let p = err_from_is_err_and c.from_residual-in_err-t.result c.from_residual-in_err-t.ensures.1 in
-    rw (p.1, p.2) (premising_full g c.requires.1 (premising_first (c.loop.invariant.premising n g) (more_left c.loop-test.true)) c.in_ok-premise.ensures.built
+    rw (p.1, p.2) (premising_full g c.requires.1 (premising_first (c.loop.invariant.premising n g) (more_left c.loop-test.true)) (rw c.patterns.ensures at c.in_ok-premise.ensures.built)
     c.substitute.ensures.kept c.in_err-t.was)
 
 pub loop-preserved : goal.loop-preserved
@@ -61,7 +61,7 @@ loop-preserved c =
       own_same = i.own_same;
       fine_same = i.fine_same;
       premising = λ n g.
-          premising_more g c.requires.1 (premising_first (i.premising n g) (more_left c.loop-test.true)) c.in_ok-premise.ensures.built c.substitute.ensures.kept
+          premising_more g c.requires.1 (premising_first (i.premising n g) (more_left c.loop-test.true)) (rw c.patterns.ensures at c.in_ok-premise.ensures.built) c.substitute.ensures.kept
           c.in_ok-t.was c.insert.ensures (omega (arith, c.loop-test.true));
     }
 

@@ -1,3 +1,4 @@
+use Rattle.state.specs.Records.{fact_rows, fact_feet}
 use mathlib.Core.Path.{◌≡◌}
 use Prim.Native.Nat.{◌≤◌}
 use lib.ListN.{length}
@@ -14,7 +15,7 @@ invariant-loop-k l =
     record {
       cells : l.k-iterator.iter.cells.now ≡ l.cells;
       tables : SameTables s t;
-      refs : RefsSoFar (source_names l.source) l.source.rows.now l.source.footings.now l.source.lists.now l.source.reader.n s.index.now s.words.now s.mark l.cells
+      refs : RefsSoFar (source_names l.source) (fact_rows l.source.records.now) (fact_feet l.source.records.now) l.source.lists.now l.source.reader.n s.index.now s.words.now s.mark l.cells
           t.index.now t.words.now t.mark l.ids l.support.hyps l.support.footing k l.instances l.k-iterator.iter.at;
       few : l.instances ≤ k;
       memo : l.memo ≡ l.initial.memo;

@@ -8,23 +8,23 @@ returns-in_err-derived-clause-added c =
     let f = rw c.source_of-source.ensures at c.in_err-derived.ensures.found in
     rw (p.1, p.2) (way_halted c.args.given.now c.args.board.now c.args.store.now c.find.new.store c.args.cells.now c.args.way _ f)
 
-pub enter_derived-requires : goal.enter_derived-requires
-enter_derived-requires c =
+pub put_derived-requires-clause-putting : goal.put_derived-requires-clause-putting
+put_derived-requires-clause-putting c =
     let f = rw c.source_of-source.ensures at c.in_ok-derived.ensures.found in
     way_putting c.args.given.now c.args.board.now c.args.store.now c.find.new.store c.args.cells.now c.args.way _ c.requires.adds f
 
-pub returns-in_err-enter_derived-clause-added : goal.returns-in_err-enter_derived-clause-added
-returns-in_err-enter_derived-clause-added c =
-    let p = err_from_is_err_and c.from_residual-in_err-enter_derived.result c.from_residual-in_err-enter_derived.ensures.1 in
+pub returns-in_err-put_derived-clause-added : goal.returns-in_err-put_derived-clause-added
+returns-in_err-put_derived-clause-added c =
+    let p = err_from_is_err_and c.from_residual-in_err-put_derived.result c.from_residual-in_err-put_derived.ensures.1 in
     let f = rw c.source_of-source.ensures at c.in_ok-derived.ensures.found in
     rw (p.1, p.2)
-    (way_full c.args.given.now c.args.board.now c.args.store.now c.find.new.store c.args.cells.now c.enter_derived.new.board _ c.args.way f _
-    c.in_err-enter_derived.ensures.enter_as)
+    (way_full c.args.given.now c.args.board.now c.args.store.now c.find.new.store c.args.cells.now c.put_derived.new.self _ c.args.way f _
+    c.in_err-put_derived.ensures.enter_as)
 
 pub returns-clause-added : goal.returns-clause-added
 returns-clause-added c =
     let f = rw c.source_of-source.ensures at c.in_ok-derived.ensures.found in
-    let w = c.in_ok-enter_derived.ensures.words in
+    let w = c.in_ok-put_derived.ensures.words in
     rw c.counts.ensures
-    (way_added c.args.given.now c.args.board.now c.args.store.now c.find.new.store c.args.cells.now c.enter_derived.new.board _ c.args.way f w.1 w.0
-    c.in_ok-enter_derived.ensures.enter_as)
+    (way_added c.args.given.now c.args.board.now c.args.store.now c.find.new.store c.args.cells.now c.put_derived.new.self _ c.args.way f w.1 w.0
+    c.in_ok-put_derived.ensures.enter_as)

@@ -30,4 +30,4 @@ place_goal-requires c =
 pub returns-clause-aimed_as : goal.returns-clause-aimed_as
 returns-clause-aimed_as c = λ g.
     let r = rw c.reader_of.ensures at c.in_ok-judgment.ensures.read_as in
-    plain_aimed g c.place-at.ensures r _ _ _ _ c.place_goal.result c.place_goal.ensures.only.4 c.place_goal.ensures.placed_as
+    plain_aimed g c.place-at.ensures r _ _ _ _ c.place_goal.result c.place_goal.ensures.only.3 c.place_goal.ensures.placed_as

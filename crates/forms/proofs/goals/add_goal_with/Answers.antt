@@ -24,7 +24,7 @@ place_goal-requires c = (place_given c.requires.adds_goal (omega arith) [], with
 
 pub returns-in-Ok-clause-aimed_as : goal.returns-in-Ok-clause-aimed_as
 returns-in-Ok-clause-aimed_as c = λ g. with_added g c.in_ok-stated.ensures.stated_as c.in-Ok.ensures.placed_as c.args.board.now.lists.now
-    c.requires.lists_len.0 c.requires.lists_len.1 c.read_stated.auto.out c.in-Ok.ensures.only.4
+    c.requires.lists_len.0 c.requires.lists_len.1 c.read_stated.auto.out c.in-Ok.ensures.only.3
 
 pub returns-in-Err-clause-aimed_as : goal.returns-in-Err-clause-aimed_as
 returns-in-Err-clause-aimed_as c = λ g.
@@ -32,6 +32,6 @@ returns-in-Err-clause-aimed_as c = λ g.
       h.0,
       h.1,
       tail_again c.args.board.now.lists.now ENTRIES c.requires.lists_len.0 c.args.board.now.n.entries g.fits c.requires.lists_len.1
-          c.read_stated.new.out c.read_stated.auto.out c.in-Err.ensures.only.4 c.clear.ensures,
+          c.read_stated.new.out c.read_stated.auto.out c.in-Err.ensures.only.3 c.clear.ensures,
       h.2,
     )

@@ -1,3 +1,4 @@
+use Rattle.state.specs.Records.{fact_rows}
 use mathlib.Core.Path.{refl, sym}
 use lib.Seq.{length-take-le}
 use Rattle.kernel.proofs.Handed.{handed}
@@ -36,10 +37,10 @@ put_rule-requires c = (
 
 pub returns-in-Ok-clause-assumed_as : goal.returns-in-Ok-clause-assumed_as
 returns-in-Ok-clause-assumed_as c = λ g. rule_added g c.min-from.ensures c.in_ok-stated.ensures.stated_as c.read_stated.auto.out
-    (c.in-Some.ensures (items_of g) g.many) refl (records c.put_rule.new.board.facts.now g.footings c.put_rule.new.board.lists.now) c.put_rule.new.board.n
+    (c.in-Some.ensures (items_of g) g.many) refl (records (fact_rows c.put_rule.new.board.facts.now) g.footings c.put_rule.new.board.lists.now) c.put_rule.new.board.n
     c.in-Ok.ensures.put_as
 
 pub returns-in-Err-clause-assumed_as : goal.returns-in-Err-clause-assumed_as
 returns-in-Err-clause-assumed_as c = λ g. rule_full g c.min-from.ensures c.in_ok-stated.ensures.stated_as c.read_stated.auto.out
-    (c.in-Some.ensures (items_of g) g.many) refl (records c.put_rule.new.board.facts.now g.footings c.put_rule.new.board.lists.now) c.put_rule.new.board.n
+    (c.in-Some.ensures (items_of g) g.many) refl (records (fact_rows c.put_rule.new.board.facts.now) g.footings c.put_rule.new.board.lists.now) c.put_rule.new.board.n
     c.in-Err.row c.in-Err.ensures.put_as c.clear-in-Err.ensures

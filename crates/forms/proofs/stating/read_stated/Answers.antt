@@ -2,7 +2,7 @@ use native.Mathlib.Omega.{arith}
 use Rattle.kernel.proofs.Handed.{handed}
 use Rattle.sexp.specs.NthItem.{place_high}
 use Rattle.forms.proofs.Statings.{listed_given, listed_stop, stated_given, stated_stops, stated_read}
-use Rattle.forms.proofs.Tails.{zero_again}
+use Rattle.terms.specs.Laws.Zeros.{zero_again}
 use Rattle.forms.proofs.stating.read_stated.Goals as goal
 
 pub offset_bounds-cells-at : goal.offset_bounds-cells-at

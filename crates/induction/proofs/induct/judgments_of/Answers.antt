@@ -1,7 +1,8 @@
 use lib.Seq.{length-take-le}
 use mathlib.Core.Path.{sym}
 use native.Mathlib.Omega.{arith}
-use Rattle.induction.proofs.Inducts.{write_asks, count_is, count_few, judged_start, judged_fact, judged_again, judged_done}
+use Rattle.state.specs.Records.{length_fact_rows}
+use Rattle.induction.proofs.Inducts.{judged_number, write_asks, count_is, count_few, judged_start, judged_fact, judged_again, judged_done}
 use Rattle.induction.proofs.induct.judgments_of.Goals as goal
 
 pub write_out-count-requires-clause-set_in_bounds : goal.write_out-count-requires-clause-set_in_bounds
@@ -18,11 +19,16 @@ slice_bounds-cell-items-end-2 c = sym
 pub loop-cell-init : goal.loop-cell-init
 loop-cell-init c = judged_start c.args.hyps.now c.requires.1 c.args.out.now c.requires.2 c.write_out-count.ensures
 
-pub judgment-requires : goal.judgment-requires
-judgment-requires c = (c.requires.0, judged_fact c.args.hyps.now c.loop-cell.invariant (omega (arith, c.loop-cell.auto.cell-items, c.loop-cell-test.true)))
+pub judgment_of-requires : goal.judgment_of-requires
+judgment_of-requires c = omega (
+  arith,
+  length_fact_rows c.args.facts.now,
+  c.requires.0,
+  judged_fact c.args.hyps.now c.loop-cell.invariant (omega (arith, c.loop-cell.auto.cell-items, c.loop-cell-test.true)),
+)
 
 pub loop-cell-preserved : goal.loop-cell-preserved
-loop-cell-preserved c = judged_again c.args.hyps.now c.loop-cell.invariant (omega (arith, c.loop-cell.auto.cell-items, c.loop-cell-test.true)) c.judgment.ensures
+loop-cell-preserved c = judged_again c.args.hyps.now c.loop-cell.invariant (omega (arith, c.loop-cell.auto.cell-items, c.loop-cell-test.true)) (judged_number c.args.facts.now _ (omega (arith, length_fact_rows c.args.facts.now, c.requires.0, judged_fact c.args.hyps.now c.loop-cell.invariant (omega (arith, c.loop-cell.auto.cell-items, c.loop-cell-test.true)))) c.judgment_of.ensures)
 
 pub returns : goal.returns
 returns c = (

@@ -1,3 +1,4 @@
+use Rattle.state.specs.Records.{fact_rows, fact_feet}
 use mathlib.Core.Path.{◌≡◌}
 use lib.ListN.{length}
 use Rattle.terms.specs.Lent.{SameTables}
@@ -11,6 +12,6 @@ invariant-loop-item l = record {
   same : SameTables l.initial.store l.store;
   memo : l.memo ≡ l.initial.memo;
   ids : length l.ids ≡ length l.initial.ids;
-  cases : CasesOf (names_of l.source.reader) l.source.rows.now l.source.footings.now l.source.lists.now l.source.reader.n l.initial.store.index.now l.initial.store.words.now
+  cases : CasesOf (names_of l.source.reader) (fact_rows l.source.records.now) (fact_feet l.source.records.now) l.source.lists.now l.source.reader.n l.initial.store.index.now l.initial.store.words.now
       l.initial.store.mark l.motive.x l.motive.sort l.motive.judgment l.motive.premises.now l.used l.cells l.store.index.now l.store.words.now l.store.mark l.from l.item-iterator.at;
 }

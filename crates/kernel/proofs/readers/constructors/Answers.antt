@@ -1,18 +1,15 @@
-use Rattle.kernel.proofs.Readings.{counting_start, counting_known, counting_in, counting_out, counting_over}
+use Rattle.std.proofs.Common.{arith, rules, ◌≡◌, ◌∙◌, ap, List, ℕ, get_or}
+use Rattle.std.specs.Prelude.{eqb, count_by}
+use Rattle.kernel.proofs.Readings.{counted_small, counted_room, counted}
 use Rattle.kernel.proofs.readers.constructors.Goals as goal
-use Rattle.kernel.proofs.readers.constructors.Goals.{then-output-sort, else-output-sort}
 
-pub loop-c-init : goal.loop-c-init
-loop-c-init c = counting_start _ _ _ c.requires
+pub overflow_mul-count : goal.overflow_mul-count
+overflow_mul-count c = omega (arith, counted_small c.requires.1.1.1)
 
-pub output-requires : goal.output-requires
-output-requires c = counting_known c.loop-c.invariant c.loop-c-test.true
-
-pub loop-c-preserved : goal.loop-c-preserved
-loop-c-preserved c = elim c.if-output-sort.branch [
-  | then-output-sort w ↦ rw w.n-is (counting_in c.loop-c.invariant c.loop-c-test.true _ c.output.ensures w.if-output-sort.true)
-  | else-output-sort w ↦ rw w.n-is (counting_out c.loop-c.invariant c.loop-c-test.true _ c.output.ensures w.if-output-sort.false)
-]
+pub slice_bounds-as_chunks-end : goal.slice_bounds-as_chunks-end
+slice_bounds-as_chunks-end c = counted_room c.requires.1.1.1
 
 pub returns : goal.returns
-returns c = counting_over c.loop-c.invariant c.loop-c-test.false
+returns c = λ T text ins h.
+    let e : c.count.result ≡ count_by (λ (row : List ℕ). eqb (get_or row 0 0) c.args.sort) c.as_chunks.result.0.now = search rules in
+    e ∙ ap (count_by (λ (row : List ℕ). eqb (get_or row 0 0) c.args.sort)) c.as_chunks.ensures.front ∙ counted T h c.args.sort

@@ -10,7 +10,8 @@ returns-in-Err-clause-finishes c =
 
 pub returns-then-many-ne0-clause-finishes : goal.returns-then-many-ne0-clause-finishes
 returns-then-many-ne0-clause-finishes c =
-    let from = rw c.behind.ensures at c.from.ensures in
+    let stopped = rw c.behind-refused.ensures at c.left_in.ensures in
+    let from = rw stopped at c.from.ensures in
     rw c.in-Ok.is (λ g. question_53 g from c.list_missing-many.ensures c.if-many-ne0.true)
 
 pub returns-clause-finishes : goal.returns-clause-finishes

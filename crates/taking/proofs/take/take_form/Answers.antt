@@ -3,9 +3,10 @@ use native.Mathlib.Omega.{arith}
 use Rattle.std.specs.Prelude.{Ok}
 use Rattle.questions.specs.declared.Question.TheVariants.{ProofForm}
 use Rattle.taking.specs.Taking.{TakenIn}
-use Rattle.taking.proofs.Heads.{form_some, form_list, form_atom_lem, form_takes}
+use Rattle.taking.proofs.Heads.{form_atom_lem, form_takes}
 use Rattle.taking.proofs.Ends.{left_part, left_back, never_tried}
 use Rattle.taking.proofs.take.take_form.Goals as goal
+use Rattle.kernel.proofs.Tagged.{form_some, form_list}
 
 pub item_at-requires : goal.item_at-requires
 item_at-requires c = form_some c.requires.0.formed

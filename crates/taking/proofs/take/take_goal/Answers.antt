@@ -3,9 +3,10 @@ use native.Mathlib.Omega.{arith}
 use Rattle.std.specs.Prelude.{Ok}
 use Rattle.questions.specs.declared.Question.TheVariants.{GoalForm}
 use Rattle.taking.specs.Taking.{GoalTakenIn}
-use Rattle.taking.proofs.Heads.{form_some, form_list, goal_atom_lem, goal_takes}
+use Rattle.taking.proofs.Heads.{goal_atom_lem, goal_takes}
 use Rattle.taking.proofs.Ends.{left_part, left_back, never_tried}
 use Rattle.taking.proofs.take.take_goal.Goals as goal
+use Rattle.kernel.proofs.Tagged.{form_some, form_list}
 
 pub item_at-requires : goal.item_at-requires
 item_at-requires c = form_some c.requires.form.formed

@@ -4,7 +4,8 @@ use Rattle.rules.specs.Limits.{VARIABLEWORDS}
 use Rattle.kernel.proofs.Handed.{handed}
 use Rattle.sexp.specs.Each.{here, over}
 use Rattle.derivation.proofs.PremiseTurn.{premise_at, left_done, left_inside, left_rule, left_given, left_theta, left_there, left_refused, left_join, left_visit, left_again}
-use Rattle.derivation.proofs.Discharging.{left_start, blank_long}
+use Rattle.derivation.proofs.Discharging.{left_start}
+use Rattle.terms.specs.Laws.Zeros.{zeros_long}
 use Rattle.derivation.proofs.apply.Rule.discharge.Goals as goal
 
 pub loop-k-init : goal.loop-k-init
@@ -18,7 +19,7 @@ loop-k-init c = rw (
   cells = refl;
   tables = (refl, refl);
   memo = c.requires.blank.0;
-  used = blank_long VARIABLEWORDS _ c.requires.blank.1;
+  used = zeros_long VARIABLEWORDS c.requires.blank.1;
   left = λ g. left_start c.requires.blank.1 g;
 }
 

@@ -1,3 +1,4 @@
+use Rattle.state.specs.Records.{fact_rows, fact_feet}
 use mathlib.Core.Path.{◌≡◌}
 use lib.ListN.{length, replicate}
 use Rattle.rules.specs.Limits.{TERMS, VARIABLEWORDS}
@@ -17,7 +18,7 @@ invariant-loop-k l =
       memo : l.memo ≡ replicate TERMS 0;
       used : length l.used ≡ VARIABLEWORDS;
       left : (g : UsesRule l.source s l.self.fact l.cells l.self.bound.now) →
-          Left (source_names l.source) l.source.rows.now l.source.footings.now l.source.lists.now l.source.reader.n s.index.now s.words.now s.mark
+          Left (source_names l.source) (fact_rows l.source.records.now) (fact_feet l.source.records.now) l.source.lists.now l.source.reader.n s.index.now s.words.now s.mark
           l.self.fact l.cells l.self.bound.now
           g.S g.xs t.index.now t.words.now t.mark l.support.hyps l.support.footing l.used l.seen l.k-iterator.count l.k-iterator.iter.at;
     }

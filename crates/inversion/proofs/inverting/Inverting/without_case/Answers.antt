@@ -30,14 +30,14 @@ pub returns-in_err-meet-clause-lacked_as : goal.returns-in_err-meet-clause-lacke
 returns-in_err-meet-clause-lacked_as c = λ g.
     let m = lack_meeting g c.in_ok-make.ensures.made_as c.make.auto.list in
     let p = err_from_is_err_and c.from_residual-in_err-meet.result c.from_residual-in_err-meet.ensures.1 in
-    rw (p.1, p.2) (lack_stopped g c.in_ok-make.ensures.made_as c.make.auto.list (c.in_err-meet.ensures.met_as m))
+    rw (p.1, p.2) (lack_stopped g c.in_ok-make.ensures.made_as c.make.auto.list (c.in_err-meet.ensures.met_as m).0)
 
 pub returns-in-Some-clause-lacked_as : goal.returns-in-Some-clause-lacked_as
 returns-in-Some-clause-lacked_as c = λ g.
     let m = lack_meeting g c.in_ok-make.ensures.made_as c.make.auto.list in
-    lack_found g c.in_ok-make.ensures.made_as c.make.auto.list _ _ _ (c.in_ok-meet.ensures.met_as m) c.in-Some.is
+    lack_found g c.in_ok-make.ensures.made_as c.make.auto.list _ _ _ _ (c.in_ok-meet.ensures.met_as m) c.in-Some.is
 
 pub returns-in-None-clause-lacked_as : goal.returns-in-None-clause-lacked_as
 returns-in-None-clause-lacked_as c = λ g.
     let m = lack_meeting g c.in_ok-make.ensures.made_as c.make.auto.list in
-    lack_apart g c.in_ok-make.ensures.made_as c.make.auto.list _ _ _ (c.in_ok-meet.ensures.met_as m) c.in-None.is
+    lack_apart g c.in_ok-make.ensures.made_as c.make.auto.list _ _ _ _ (c.in_ok-meet.ensures.met_as m) c.in-None.is

@@ -8,7 +8,7 @@ pub premises-requires : goal.premises-requires
 premises-requires c = rule_there c.requires
 
 pub skip-requires : goal.skip-requires
-skip-requires c = premises_pass _ _ c.words.ensures c.premises.ensures c.requires
+skip-requires c = rw c.patterns.ensures (premises_pass _ _ c.words.ensures c.premises.ensures c.requires)
 
 pub returns : goal.returns
-returns c = premises_passed _ _ c.words.ensures c.premises.ensures c.skip.ensures
+returns c = premises_passed _ _ c.words.ensures c.premises.ensures (rw c.patterns.ensures at c.skip.ensures)

@@ -7,7 +7,8 @@ use Rattle.sexp.specs.Each.{here, over}
 use Rattle.reading.proofs.TermArguments.{known_symbol, symbol_small, going_begins, going_inputs, going_high, going_item, going_stops, going_put, going_on, going_misfits, going_ends, part_most}
 use Rattle.reading.proofs.TermHeads.{rest_fewer}
 use Rattle.reading.proofs.TermBehind.{opens, rest_items, behind_stops, behind_narrow, behind_length, behind_node, behind_typed}
-use Rattle.reading.proofs.TermItems.{item_there, atom_given, term_atomic, item_list, list_items, term_compounds}
+use Rattle.reading.specs.Laws.Walks.{first_some}
+use Rattle.reading.proofs.TermItems.{atom_given, term_atomic, item_list, list_items, term_compounds}
 use Rattle.reading.proofs.reader.Reader.+arguments_compound_term.Goals as goal
 use Rattle.reading.proofs.reader.Reader.+arguments_compound_term.Goals.{arguments-then-not-fits-via-then-not-fits, arguments-then-not-fits-via-else-not-fits+then-k-count}
 
@@ -106,7 +107,7 @@ compound-returns-clause-typed_as t c = λ g. let o = c.in_ok-c.ensures (opens g)
     (c.output.ensures g.S.theory _ _ _ g.reads.spelling.held o.known) c.keep_typed.ensures.typed_as
 
 pub term-item_at-requires : goal.term-item_at-requires
-term-item_at-requires t c = item_there c.requires.holds
+term-item_at-requires t c = first_some c.requires.holds
 
 pub term-atomic-requires : goal.term-atomic-requires
 term-atomic-requires t c = atom_given c.requires c.item_at.ensures c.in-Atom.is

@@ -2,11 +2,12 @@ use mathlib.Core.Path.{refl}
 use native.Mathlib.Omega.{arith}
 use Rattle.std.proofs.lemmas.Result.{err_from_is_err_and}
 use Rattle.reading.proofs.TermBehind.{opens, rest_items, behind_stops, behind_narrow, behind_length, behind_node, behind_kept, behind_full}
-use Rattle.reading.proofs.TermItems.{item_there, item_list, list_items, judgment_atom, judgment_opens, judgment_unopened}
+use Rattle.reading.specs.Laws.Walks.{first_some}
+use Rattle.reading.proofs.TermItems.{item_list, list_items, judgment_atom, judgment_opens, judgment_unopened}
 use Rattle.reading.proofs.reader.Reader.judgment.Goals as goal
 
 pub item_at-requires : goal.item_at-requires
-item_at-requires c = item_there c.requires.holds
+item_at-requires c = first_some c.requires.holds
 
 pub returns-in_default-clause-read_as : goal.returns-in_default-clause-read_as
 returns-in_default-clause-read_as c = λ g. judgment_atom g c.item_at.ensures c.in_default.is

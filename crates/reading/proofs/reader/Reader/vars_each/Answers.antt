@@ -4,7 +4,7 @@ use lib.ListN.{length-set}
 use Rattle.rules.specs.Limits.{VARIABLES}
 use Rattle.sexp.specs.Each.{here, over}
 use Rattle.reading.proofs.Variables.{varing_start, varing_first, varing_none, varing_below, varing_twice, varing_room, varing_more, varing_over, vars_few, named}
-use Rattle.reading.proofs.Filling.{zeros_long}
+use Rattle.terms.specs.Laws.Zeros.{zeros_long}
 use Rattle.reading.proofs.reader.Reader.vars_each.Goals as goal
 
 pub loop-item-init : goal.loop-item-init

@@ -4,5 +4,16 @@ use Rattle.tabled.proofs.tables.Tables.check.Goals as goal
 
 pub returns : goal.returns
 returns c =
-    answers_named (search rules) (search rules) (search rules) (search rules) (search rules) (search rules) (search rules) (search rules) (search rules)
-    (search rules) (search rules) (search rules) (search rules) c.check_rows.ensures
+    answers_named _ _ _ (record {
+      theory = record {
+        sorts = search rules;
+        symbols = search rules;
+        inputs = search rules;
+        rules = search rules;
+        rule_vars = search rules;
+        patterns = search rules;
+      };
+      working = record { vars = search rules; index = search rules; words = search rules; defs = search rules; goals = search rules; lists = search rules };
+      missing = search rules;
+      facts = search rules;
+    }) c.check.ensures.0
