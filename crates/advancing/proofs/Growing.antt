@@ -20,6 +20,7 @@ use Rattle.rules.proofs.Laws.Form.{Taken, new_var, new_def, new_fact, got_result
 use Rattle.rules.proofs.Laws.Appends.{AtMostOne, no_more, one_more, Marks, unmarked, marks, take_form_appends}
 use Rattle.kernel.specs.Parsed.{TheoryLists}
 use Rattle.terms.specs.declared.store.Mark.{Mark}
+use Rattle.advancing.specs.Stepped.{OneMore, came, same}
 use Rattle.state.specs.declared.sizes.Sizes.{Sizes}
 use Rattle.state.specs.RowCells.{fact_row, footing_row}
 use Rattle.state.specs.Filled.{filled_front, filled_take}
@@ -44,10 +45,6 @@ feet_further {xs} no_more = record { rest = []; is = sym (append-nil (footing_ce
 feet_further {xs} (one_more f) = record { rest = footing_row f; is = footing_cells_snoc xs f }
 
 -- k is n, or one more
-pub data OneMore (n k : ℕ) : Type 0 where
-  came : k ≡ n + 1 → OneMore n k
-  same : k ≡ n → OneMore n k
-
 how_many : {A : Type 0} {xs ys : List A} {n k : ℕ} → AtMostOne xs ys → n ≡ length xs → k ≡ length ys → OneMore n k
 how_many no_more e f = same (f ∙ sym e)
 how_many {xs = xs} (one_more x) e f = came (f ∙ length_one_more xs x ∙ ap (λ n. n + 1) (sym e))

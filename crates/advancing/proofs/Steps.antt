@@ -136,6 +136,7 @@ module _ {g : Given} {b : Board} {s : Store} {at : ℕ} (r : Ready g b s at) {ce
 
           pub form_taken : Stepped g b c t r.k at r.S (record { end = f.end; counts = d })
           form_taken =
+              let w = taken_rows r.underway.stands a.stands form.form a.is in
               let n = taken_few form.form r.S a.after (counts_of d) a.is a.counted in
               let z = few_one d (length (encode form.form)) n (omega (arith, form.size, used_few)) in
               record {
@@ -144,6 +145,7 @@ module _ {g : Given} {b : Board} {s : Store} {at : ℕ} (r : Ready g b s at) {ce
                 counted = a.counted;
                 small = z;
                 few = few_more d r.k z;
+                stored = w.many;
                 room = facts_room a.stands;
                 sooner = form.on;
               }

@@ -57,6 +57,11 @@ pub record Stay (b c : Board) : Type 0 where
   pub same_rows : take (6 * b.n.facts) (fact_rows c.facts.now) ≡ take (6 * b.n.facts) (fact_rows b.facts.now)
   pub same_feet : take (4 * b.n.facts) (fact_feet c.facts.now) ≡ take (4 * b.n.facts) (fact_feet b.facts.now)
 
+-- a form stores one fact or none: n before, k afterwards
+pub data OneMore (n k : ℕ) : Type 0 where
+  came : k ≡ n + 1 → OneMore n k
+  same : k ≡ n → OneMore n k
+
 -- a form is taken that began at p; S: the state before; c, t: the tables and the store afterwards
 pub record Stepped (g : Given) (b c : Board) (t : Store) (k p : ℕ) (S : State) (a : Advance) : Type 0 where
   pub after : State
@@ -64,6 +69,7 @@ pub record Stepped (g : Given) (b c : Board) (t : Store) (k p : ℕ) (S : State)
   pub counted : after.counts ≡ plus S.counts (counts_of a.counts)
   pub small : Few a.counts 1
   pub few : (c : Counts) → Few c k → Few (sum c a.counts) (k + 1)
+  pub stored : OneMore b.n.facts c.n.facts
   pub room : c.n.facts ≤ FACTS
   pub sooner : p < a.end
 

@@ -21,17 +21,12 @@ use state::sizes::Sizes;
 use terms::store::Store;
 
 // What the forms of a text are given.
-pub fn given_of<'a>(
-    theory: &'a [u8],
-    goals: &'a [u8],
-    text: &'a [u8],
-    tables: &'a Tables<'_>,
-) -> Given<'a>
-    ensures { result ≡ given_of theory.entry goals.entry text.entry tables.now }
+pub fn given_of<'a>(texts: &'a Texts<'_>, text: &'a [u8], tables: &'a Tables<'_>) -> Given<'a>
+    ensures { result ≡ given_of texts.now.theory texts.now.goals text.entry tables.now }
 {
     Given {
-        theory,
-        goals,
+        theory: texts.theory,
+        goals: texts.goals,
         text,
         sorts: tables.sorts,
         symbols: tables.symbols,
@@ -65,6 +60,6 @@ pub fn begin(
     let judged = parse_exact(texts.theory, cells, tables);
     board.n = Sizes::from(tables.held);
     judged.map_err(|refused| Stopped::left_in(Text::Theory, refused))?;
-    let given = given_of(texts.theory, texts.goals, texts.goals, tables);
+    let given = given_of(texts, texts.goals, tables);
     pose(&given, board, store, cells).map_err(|refused| Stopped::left_in(Text::Goals, refused))
 }

@@ -32,21 +32,17 @@ fn take_goals(
 {
     let mut forms = 0;
     let mut at = 0;
-    // From form to form, which is no count. A form is read into lent cells and taken into lent tables: a walker that is handed what to do with it would be
-    // handed all of these and their contracts with it, and this loop, which says no more, would stand in it.
-    // Refusals are handed on by hand, not by `map_err`: a closure would have to say what it answers in a clause of its own.
+    // From form to form: how many there are is not known before, so that no range is walked. A form is read into lent cells and taken into lent tables: a
+    // walker that is handed what to do with it would be handed all of these and their contracts with it, and this loop, which says no more, would stand in it.
     loop {
-        let form = match read_form(given.goals, at, cells) {
-            Ok(Some(form)) => form,
-            Ok(None) => break,
-            // a text that was read whole before is not refused here
-            Err(question) => return Err(question.behind(forms)),
+        let read = read_form(given.goals, at, cells);
+        // a text that was read whole before is not refused here
+        let Some(form) = read.map_err(|question| question.behind(forms))? else {
+            break;
         };
         let taken = take_goal(given, board, store, &cells[..form.cells]);
         clear(&mut cells[..form.cells]);
-        if let Err(question) = taken {
-            return Err(question.behind(forms));
-        }
+        taken.map_err(|question| question.behind(forms))?;
         forms += 1;
         at = form.end;
     }

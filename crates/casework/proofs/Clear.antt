@@ -7,7 +7,7 @@ use Prim.Native.Nat.{ℕ, suc, ◌+◌, ◌-◌, ◌<◌, ◌≤◌}
 use native.Mathlib.Omega.{arith}
 use lib.Dec.{eqb}
 use Rattle.std.proofs.lemmas.List.{nil_from_length}
-use lib.ListN.{length, get_or, drop, replicate, length-replicate}
+use lib.ListN.{length, get_or, replicate, length-replicate}
 use borrow.Author.Tests.{eqb-true, eqb-false}
 use Rattle.rules.specs.Limits.{VARIABLES, VARIABLEWORDS, TERMWORDS}
 use Rattle.rules.specs.Out.{refuse, ask}
@@ -37,7 +37,6 @@ use Rattle.referring.specs.Referral.{Gathered}
 use Rattle.referring.specs.Derived.{cell_vars, ReadableCells}
 use Rattle.terms.specs.Table.{Below}
 use Rattle.casework.specs.Context.{UnboundAs, ContextGiven, under}
-use Rattle.casework.specs.Laws.Loops.{all_yes, all_no, all_over, not_so, not_not}
 use Rattle.casework.specs.Laws.Rows.{row, general_is}
 
 -- No value has one of the variables ----------------------------------------------------------------------------------------------------------
@@ -89,22 +88,9 @@ pub clear_set : {I W : List ℕ} {m : Mark} (map : List ℕ) {inside : List ℕ}
     Gathered I W m (cell_vars (made I W m) map) (holds inside) seen' (holds inside') → holds inside' ≡ cell_vars (made I W m) map
 clear_set {I} {W} {m} map inside' e v = v.set ∙ ap (λ (s : Set). union s (cell_vars (made I W m) map)) (ap holds e ∙ holds_zero VARIABLEWORDS)
 
--- what is left of the variables decides
-abbrev pub Clearing : List ℕ → List ℕ → ℕ → Type 0
-Clearing inside vs k = all (λ (v : ℕ). not (holds inside v)) vs ≡ all (λ (v : ℕ). not (holds inside v)) (drop k vs)
-
-pub clear_on : (inside vs : List ℕ) (k : ℕ) → Clearing inside vs k → k < length vs → {b : Bool} → b ≡ holds inside (get_or vs k 0) → b ≡ false → Clearing inside vs (k + 1)
-clear_on inside vs k i l e t = i ∙ all_yes (λ (v : ℕ). not (holds inside v)) vs k l (not_not e t)
-
-module _ (M : Made) (vs map inside : List ℕ) (h : holds inside ≡ cell_vars M map) (k : ℕ) (i : Clearing inside vs k) where
-  clear_is : all (λ (v : ℕ). not (holds inside v)) vs ≡ clear vs (bindings M map 0)
-  clear_is = ap (λ (s : Set). all (λ (v : ℕ). not (s v)) vs) h ∙ sym (clear_cells M vs map 0)
-
-  pub clear_no : k < length vs → {b : Bool} → b ≡ holds inside (get_or vs k 0) → b ≡ true → false ≡ clear vs (bindings M map 0)
-  clear_no l e t = sym (i ∙ all_no (λ (v : ℕ). not (holds inside v)) vs k l (not_so e t)) ∙ clear_is
-
-  pub clear_over : length vs ≤ k → true ≡ clear vs (bindings M map 0)
-  clear_over l = sym (i ∙ all_over (λ (v : ℕ). not (holds inside v)) vs k l) ∙ clear_is
+-- so that a set of them decides
+pub clear_is : (M : Made) (vs map inside : List ℕ) → holds inside ≡ cell_vars M map → all (λ (v : ℕ). not (holds inside v)) vs ≡ clear vs (bindings M map 0)
+clear_is M vs map inside h = ap (λ (s : Set). all (λ (v : ℕ). not (s v)) vs) h ∙ sym (clear_cells M vs map 0)
 
 -- Without the cells of some variables --------------------------------------------------------------------------------------------------------
 

@@ -1,5 +1,6 @@
 // The cases of `invert`, `(RULE INDEX (VAR...))`, one a name: question 41, and 42 for their variables.
 ghost use Rattle.std.specs.Prelude.{◌≡◌, [], ◌≤◌, length};
+ghost use Rattle.rules.specs.Limits.{LENGTH};
 ghost use Rattle.rules.specs.Text.{same};
 ghost use Rattle.rules.specs.Find.{any};
 ghost use Rattle.rules.specs.Invert.{Case};
@@ -21,7 +22,7 @@ const FEW: usize = 16;
 // The cells of a tree for 8,191 names, two for each.
 const NAMECELLS: usize = 16384;
 
-// Where the case's name begins, the number of its fact, its variables, and how many they are.
+// Where the case's name begins, the number of its fact, its variables, and how many they are: there is no heap for a list.
 #[derive(Clone, Copy)]
 pub struct CaseRead {
     pub start: usize,
@@ -135,13 +136,13 @@ fn read_with(
     Ok(())
 }
 
-// The same for many cases. The tables are for more names than a text has room for, and are zeroed for long lists alone.
-fn read_many(reader: &Reader<'_>, cells: &[u32]) -> Result<(), Question>
-    requires { ReadsCases reader.now cells.now }
+// The same, with a tree in so many cells, two for each name.
+fn read_in<const CELLS: usize>(reader: &Reader<'_>, cells: &[u32]) -> Result<(), Question>
+    requires { ReadsCases reader.now cells.now × (CELLS ≤ LENGTH) }
     ensures { (g : ReadsCases reader.now cells.now) → CasesAs g.S g.xs result }
 {
-    let mut places = [0u32; NAMECELLS];
-    let mut links = [0u32; NAMECELLS];
+    let mut places = [0u32; CELLS];
+    let mut links = [0u32; CELLS];
     let mut names = NameTree {
         text: reader.text,
         places: &mut places,
@@ -151,22 +152,15 @@ fn read_many(reader: &Reader<'_>, cells: &[u32]) -> Result<(), Question>
     read_with(reader, cells, &mut names)
 }
 
-// All cases are read: what is asked of each, and that no two have one name. Two cells are no room for a tree, so that few names are compared by pairs. It is
-// no Option: a tree without room is asked about all the same (`is_taken`), and no tree would be one more case of it.
+// All cases are read: what is asked of each, and that no two have one name. For many cases the tables are for more names than a text has room for: they
+// are zeroed for long lists alone. Two cells are no room for a tree, so that few names are compared by pairs. It is no Option: a tree without room is
+// asked about all the same (`is_taken`), and no tree would be one more case of it.
 pub fn read_cases(reader: &Reader<'_>, cells: &[u32]) -> Result<(), Question>
     requires { ReadsCases reader.now cells.now }
     ensures { (g : ReadsCases reader.now cells.now) → CasesAs g.S g.xs result }
 {
     if items::count(cells) > FEW {
-        return read_many(reader, cells);
+        return read_in::<NAMECELLS>(reader, cells);
     }
-    let mut places = [0u32; 2];
-    let mut links = [0u32; 2];
-    let mut names = NameTree {
-        text: reader.text,
-        places: &mut places,
-        links: &mut links,
-        many: 0,
-    };
-    read_with(reader, cells, &mut names)
+    read_in::<2>(reader, cells)
 }

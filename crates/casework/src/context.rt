@@ -1,7 +1,7 @@
 // What a case of `invert` may rest on: the rule's premises and the facts of the context, under the unifier. Those without premises and generalised
 // variables are a set of terms; each other one is compared with the facts that the case rests on (question 44), which come into a set.
 ghost use Rattle.state.specs.Records.{fact_rows};
-ghost use Rattle.std.specs.Prelude.{◌≡◌, List, ℕ, ◌<◌, length, replicate};
+ghost use Rattle.std.specs.Prelude.{◌≡◌, not, List, ℕ, ◌*◌, ◌<◌, length, replicate};
 ghost use Rattle.rules.specs.Limits.{VARIABLES, TERMS, TERMWORDS, FACTWORDS};
 ghost use Rattle.rules.specs.Find.{all};
 ghost use Rattle.rules.specs.Theory.{rule};
@@ -185,6 +185,19 @@ fn unbind(variables: &[u32], map: &mut [u32])
     }
 }
 
+// Whether none of the variables is in the set.
+pub fn none_in(set: &[u64], variables: &[u32]) -> bool
+    requires { Below (64 * length set.now) variables.now }
+    ensures { result ≡ all (λ v. not (holds set.now v)) variables.now }
+{
+    for v in variables {
+        if has(set, *v as usize) {
+            return false;
+        }
+    }
+    true
+}
+
 // Question 48: whether no value of the map has one of the variables.
 fn is_clear(terms: &Terms<'_>, map: &[u32], variables: &[u32]) -> bool
     requires { GoodTerms terms.now × Theta terms.now.mark map.now × Below VARIABLES variables.now }
@@ -193,12 +206,7 @@ fn is_clear(terms: &Terms<'_>, map: &[u32], variables: &[u32]) -> bool
     let mut seen = [0u64; TERMWORDS];
     let mut inside = [0u64; VARIABLEWORDS];
     visit_cells(terms, map, &mut seen, &mut inside);
-    for v in variables {
-        if has(&inside, *v as usize) {
-            return false;
-        }
-    }
-    true
+    none_in(&inside, variables)
 }
 
 // Fact h of the context under the unifier, which leaves its generalised variables alone, and what it allows.
@@ -230,7 +238,8 @@ fn context_fact<'a>(
     Ok(context_under(facts, store, &zeta, memo, h, ids, grounds)?)
 }
 
-// All facts of the context in turn. `memo` and `ids` are scratch: zero before and after; they are no struct: see `induction::induct`.
+// All facts of the context in turn. `memo` and `ids` are scratch: zero before and after; a struct of both would be taken apart where
+// `context_under` cuts `ids`.
 pub fn context_facts<'a>(
     facts: &Facts<'_>,
     store: &mut Store<'_>,

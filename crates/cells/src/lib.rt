@@ -1,7 +1,7 @@
 // Cells of tables as such: parts of them, set to zero, copied. Whoever means a part of a table lends that part.
 #![tactic(auto)]
 
-ghost use Rattle.std.specs.Prelude.{◌≡◌, ◌++◌, ◌≤◌, length, drop, replicate};
+ghost use Rattle.std.specs.Prelude.{◌≡◌, ◌++◌, ◌+◌, ◌<◌, ◌≤◌, length, get_or, drop, replicate};
 
 // What a table is made of: a cell of it, or a word of a set.
 pub trait Cell: Copy {
@@ -28,6 +28,17 @@ impl Cell for u64 {
 pub struct Span {
     pub from: usize,
     pub end: usize,
+}
+
+// The part that two cells of a table give, the first of them at that place.
+pub fn span_at(table: &[u32], at: usize) -> Span
+    requires { at + 1 < length table.now }
+    ensures { result ≡ record { from = get_or table.now at 0; end = get_or table.now (at + 1) 0 } }
+{
+    Span {
+        from: table[at] as usize,
+        end: table[at + 1] as usize,
+    }
 }
 
 // Every cell becomes 0: a loop and no `fill`, which clones, and of a clone the trait would have to say that it cannot fail and is the same.

@@ -18,7 +18,8 @@ use rules::PATTERNS;
 use state::board::{Board, Given};
 use terms::store::Store;
 
-// How a derived fact is found.
+// How a derived fact is found. The ways are named, and no closure is handed on: each would have to carry what it asks and answers, which `FindsBy` and
+// `FoundBy` say by the way.
 #[derive(Clone, Copy, Debug, PartialEq, Eq)]
 pub enum Way {
     Step,
@@ -46,7 +47,8 @@ impl Way {
     }
 }
 
-// What the form derives, by its items. `memo` and `ids` are scratch: zero before and after. They are no struct: see `induction::induct`.
+// What the form derives, by its items. `memo` and `ids` are scratch: zero before and after. A struct of both would be taken apart here: `step` is lent a
+// part of `ids`, and `apply` is lent `memo` alone.
 fn find(
     source: &Source<'_>,
     rules: &Rules<'_>,

@@ -16,7 +16,7 @@ use Rattle.sexp.specs.declared.items.Item.TheVariants.{Atom, List as Part}
 use Rattle.sexp.specs.Reads.{ReadRight}
 use Rattle.sexp.specs.Through.{Legible}
 use Rattle.sexp.specs.ReadLaws.{read_first, FormIs, at_end, at_refused, at_form, form_cleared}
-use Rattle.std.specs.Prelude.{Option, Some as some, None as nothing, Result, Ok, Err}
+use Rattle.std.specs.Prelude.{Option, Some as some, None as nothing, Result, Ok, Err, MatchResult}
 use Rattle.questions.specs.declared.Question.{Question}
 use Rattle.questions.specs.declared.Refused.{Refused}
 use Rattle.sexp.specs.Whole.{EndsAs}
@@ -147,3 +147,9 @@ module _ {text w₀ w : List ℕ} {at n : ℕ} (t : Turning text w₀ w at n) wh
               few = omega (arith, t.few, here.on);
               same = t.same ∙ ap (λ y. forms_of y n) here.reads ∙ whole_atom here.form (rw here.cells at b);
             }
+
+-- of a text that is read whole: the number of its forms, or of those before the refusal
+pub scan_told : (t : Text) (n : ℕ) (q : Result ℕ Refused) {k : ℕ} (P : Refused → Type 0) → EndsAs t n q → MatchResult q (λ x. k ≡ x) P
+    → ((e : Refused) → P e → k ≡ e.form) → k ≡ forms_of t n
+scan_told t n (Ok x) P e m f = m ∙ forms_are t n x e
+scan_told t n (Err r) P e m f = f r m ∙ forms_before t n r e

@@ -21,10 +21,7 @@ use sexp::sexp::{read_all, read_form};
 pub extern "C" fn tariff_scan(text: &[u8]) -> usize
     ensures { result ≡ forms_of (read text.now) 0 }
 {
-    match read_all(text) {
-        Ok(forms) => forms,
-        Err(refused) => refused.form,
-    }
+    read_all(text).unwrap_or_else(|refused| refused.form)
 }
 
 // Whether the form whose cells begin here is a list.

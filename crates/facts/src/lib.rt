@@ -1,5 +1,4 @@
-// The recorded facts: one lent table of records. Nothing else writes a record or reads one out of the table; whoever wants more of a record
-// takes it by value.
+// The recorded facts: one lent table of records. Records are written here alone; whoever only reads takes the fields that it needs.
 #![tactic(auto)]
 
 ghost use Rattle.std.specs.Prelude.{◌≡◌, not, ◌<◌, ◌≤◌, eqb, length, get_or, set, Some};
@@ -33,7 +32,7 @@ impl Fact {
     };
 }
 
-// Whether it is a hypothesis. This and the two below are public and promised, for whoever reads records in Rattle.
+// Whether it is a hypothesis.
 pub fn is_assumed(f: Fact) -> bool
     ensures { result ≡ not (eqb f.assumed 0) }
 {
@@ -64,7 +63,7 @@ pub fn append(facts: &mut [Fact], i: usize, f: Fact)
     facts[i] = f;
 }
 
-// The same where a fact is stored: i is a place of the table only then.
+// The same where a fact is stored: i is a place of the table only then. It is public and promised; nothing here calls it.
 pub fn append_if(facts: &mut [Fact], i: usize, stored: Option<Fact>)
     requires { (f : Fact) → stored ≡ Some f → i < length facts.old }
     ensures { facts.new ≡ appended stored facts.old i }

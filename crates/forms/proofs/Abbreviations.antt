@@ -190,7 +190,7 @@ module _ {K : Names} {n : Sizes} {I W : List ℕ} {m : Mark} {cells : List ℕ} 
                         (def_end_full the_name (tree J X new t) (with_made g.S (made J X new)) is_free
                         (le-ltb (length g.S.defs) DEFS (omega (arith, g.reads.spelling.defs.many))))
 
-                    pub def_named : n.defs < DEFS → DefNamed K.text n I W J X m g.S (add_def g.xs g.S) (record { start = start; end = end; term = t }) new
+                    pub def_named : n.defs < DEFS → DefNamed K.text n I W J X m g.S (add_def g.xs g.S) (record { name = record { from = start; end = end }; term = t }) new
                     def_named o =
                         record {
                           makes = came.makes;
@@ -212,7 +212,7 @@ module _ {K : Names} {n : Sizes} {I W : List ℕ} {m : Mark} {cells : List ℕ} 
 module _ {K : Names} {n : Sizes} {I W : List ℕ} {m : Mark} {cells : List ℕ} (g : ReadsForm K n I W m cells 3) {J X : List ℕ} {a : Abbreviation} {new : Mark}
     (f : (h : ReadsForm K n I W m cells 3) → DefNamed K.text n I W J X m h.S (add_def h.xs h.S) a new) where
   -- what `put_def` asks
-  pub def_fits : (length K.defs ≡ 3 * DEFS) × (n.defs < DEFS) × Fits4 a.start a.end a.term 0
+  pub def_fits : (length K.defs ≡ 3 * DEFS) × (n.defs < DEFS) × Fits4 a.name.from a.name.end a.term 0
   def_fits =
       let z = f g in (
         defs_long g.reads.spelling.defs,
@@ -225,14 +225,14 @@ module _ {K : Names} {n : Sizes} {I W : List ℕ} {m : Mark} {cells : List ℕ} 
         },
       )
 
-  pub def_is_added : {after : List ℕ} → after ≡ sets K.defs (3 * n.defs) (a.start ∷ a.end ∷ a.term ∷ []) →
+  pub def_is_added : {after : List ℕ} → after ≡ sets K.defs (3 * n.defs) (a.name.from ∷ a.name.end ∷ a.term ∷ []) →
       DefAdded K.text K.defs after n I W J X m g.S (add_def g.xs g.S) new
   def_is_added h =
       let z = f g in
       record {
         makes = z.makes;
         new = z.new;
-        end = a.end;
+        end = a.name.end;
         term = a.term;
         is = z.is;
         room = z.room;
@@ -240,5 +240,5 @@ module _ {K : Names} {n : Sizes} {I W : List ℕ} {m : Mark} {cells : List ℕ} 
         there = z.there;
         ends = z.ends;
         numbered = z.numbered;
-        cells = h ∙ ap (λ s. sets K.defs (3 * n.defs) (s ∷ a.end ∷ a.term ∷ [])) z.starts;
+        cells = h ∙ ap (λ s. sets K.defs (3 * n.defs) (s ∷ a.name.end ∷ a.term ∷ [])) z.starts;
       }

@@ -67,8 +67,8 @@ pub record DefNamed (text : List ℕ) (n : Sizes) (I W J X : List ℕ) (old : Ma
   pub room : n.defs < DEFS
   pub named : NameIn text new.name
   pub there : In new.term (made J X now)
-  pub starts : a.start ≡ new.name.start
-  pub ends : a.end ≡ new.name.start + length new.name.bytes
+  pub starts : a.name.from ≡ new.name.start
+  pub ends : a.name.end ≡ new.name.start + length new.name.bytes
   pub numbered : a.term ≡ number (made J X now) new.term
   pub small : a.term < now.terms
 

@@ -85,8 +85,7 @@ pub fn add_var(
 // An abbreviation by its row: where its name stands in the text, and the number of its term.
 #[derive(Clone, Copy, Debug, PartialEq, Eq)]
 pub struct Abbreviation {
-    pub start: usize,
-    pub end: usize,
+    pub name: Span,
     pub term: usize,
 }
 
@@ -121,8 +120,10 @@ fn new_def(
     if board.n.defs >= DEFS {
         return Err(Question::Room(Row::Abbreviations));
     }
-    let term = typed.term;
-    Ok(Abbreviation { start, end, term })
+    Ok(Abbreviation {
+        name: Span { from: start, end },
+        term: typed.term,
+    })
 }
 
 // `(def ?NAME TERM)`, by the items of the form.
@@ -139,11 +140,7 @@ pub fn add_def(
         DefAs given.now board.old board.new store.old store.new g.S (add_def g.xs g.S) result }
 {
     let new = new_def(given, board, store, cells)?;
-    let name = Span {
-        from: new.start,
-        end: new.end,
-    };
-    put_def(board.defs, board.n.defs, name, new.term);
+    put_def(board.defs, board.n.defs, new.name, new.term);
     board.n.defs += 1;
     Ok(())
 }

@@ -112,11 +112,9 @@ pub fn add_goal_with(
     let defs = &mut *board.defs;
     let lists = &mut *board.lists;
     let stated = read_stated(given, vars, defs, n, store, cells, &mut lists[from..])?;
-    match place_goal(given, board, cells, stated) {
-        Ok(()) => Ok(()),
-        Err(question) => {
-            clear(&mut board.lists[from..]);
-            Err(question)
-        }
+    let placed = place_goal(given, board, cells, stated);
+    if placed.is_err() {
+        clear(&mut board.lists[from..]);
     }
+    placed
 }

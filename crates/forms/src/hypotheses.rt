@@ -22,7 +22,8 @@ use sexp::items;
 use state::board::{Board, Given};
 use terms::store::Store;
 
-// `(hyp N JUDGMENT)`, by the items of the form.
+// `(hyp N JUDGMENT)`, by the items of the form. The board and the store are lent as two, here and in the other forms: names are read from the board while
+// the store is filled, so that a struct of both would be taken apart in each.
 pub fn add_hyp(
     given: &Given<'_>,
     board: &mut Board<'_>,
@@ -121,11 +122,9 @@ pub fn add_rule_hyp(
         clear(&mut board.lists[from..]);
         return Err(Question::Binding);
     };
-    match put_rule(board, stated.judgment, stated.listed, &general[..many]) {
-        Ok(()) => Ok(()),
-        Err(row) => {
-            clear(&mut board.lists[from..]);
-            Err(Question::Room(row))
-        }
+    let put = put_rule(board, stated.judgment, stated.listed, &general[..many]);
+    if put.is_err() {
+        clear(&mut board.lists[from..]);
     }
+    Ok(put?)
 }

@@ -54,11 +54,10 @@ pub fn read_stated(
     let at = items::place(cells, 2);
     let listed = reader.judgments(store, &cells[at..], out)?;
     let next = items::place(cells, 3);
-    match reader.judgment(store, &cells[next..]) {
-        Ok(judgment) => Ok(Stated { judgment, listed }),
-        Err(question) => {
-            clear(out);
-            Err(question)
-        }
+    let read = reader.judgment(store, &cells[next..]);
+    if read.is_err() {
+        clear(out);
     }
+    let judgment = read?;
+    Ok(Stated { judgment, listed })
 }

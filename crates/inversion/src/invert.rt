@@ -122,7 +122,7 @@ fn hypothesis(source: &Source<'_>, cells: &[u32], hyps: &mut [u64]) -> Result<us
 }
 
 // The form, whose items the cells hold. The rows of the variables that are made are for the caller to write (`put_made`). `memo` and `ids` are scratch:
-// zero before and after; they are no struct: see `induction::induct`.
+// zero before and after. A struct of both would be taken apart below: `context_under` of casework cuts `ids`, and unification is lent `memo` alone.
 pub fn invert(
     source: &Source<'_>,
     rules: &Rules<'_>,

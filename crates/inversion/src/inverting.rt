@@ -22,7 +22,8 @@ pub struct RuleVars<'a> {
     pub count: usize,
 }
 
-// The variables that a case must not have, the sorts of those that were made, each at its number, and how many variables there are.
+// The variables that a case must not have, the sorts of those that were made, each at its number, and how many variables there are: there is no heap for
+// a list of sorts.
 #[derive(Drop)]
 pub struct Variables {
     pub taken: [u64; VARIABLEWORDS],

@@ -1,11 +1,9 @@
 // The variables of a rule, renamed: those of its case, which suit it and are new (question 42), or made ones, where there is no case.
-ghost use Rattle.std.specs.Prelude.{◌≡◌, not, List, ℕ, ◌*◌, ◌≤◌, length};
+ghost use Rattle.std.specs.Prelude.{◌≡◌, List, ℕ, ◌≤◌, length};
 ghost use Rattle.rules.specs.Limits.{VARIABLES, RULEVARS, VARIABLEWORDS};
-ghost use Rattle.rules.specs.Find.{all};
 ghost use Rattle.rules.specs.Theory.{rule};
 ghost use Rattle.rules.specs.State.{Var};
 ghost use Rattle.rules.specs.Invert.{suit};
-ghost use Rattle.terms.specs.Sets.{holds};
 ghost use Rattle.state.specs.Held.{VarCells};
 ghost use Rattle.terms.specs.Table.{Below};
 ghost use Rattle.inversion.specs.InvertRules.{MadeAs, CaseVarsAs};
@@ -13,25 +11,12 @@ ghost use Rattle.inversion.specs.Inverting.{RuleVarsIn, CaseVarsIn};
 
 use crate::inverting::{Inverting, RuleVars, Variables};
 use casework::cases::read_case;
+use casework::context::none_in;
 use cells::write;
 use questions::{Question, Row};
 use referring::references::insert_all;
 use rules::VARIABLES;
 use state::vars::var_sort;
-use terms::sets::has;
-
-// Whether none of the variables is in the set.
-fn all_new(list: &[u32], taken: &[u64]) -> bool
-    requires { Below (64 * length taken.now) list.now }
-    ensures { result ≡ all (λ v. not (holds taken.now v)) list.now }
-{
-    for v in list {
-        if has(taken, *v as usize) {
-            return false;
-        }
-    }
-    true
-}
 
 impl RuleVars<'_> {
     // Whether the variables are as many as the rule has, each of its sort.
@@ -51,7 +36,8 @@ impl RuleVars<'_> {
         true
     }
 
-    // A variable without a name for each of the rule's: its sort comes into the table, its number into the list.
+    // A variable without a name for each of the rule's: its sort comes into the table, its number into the list. The list is lent: there
+    // is no heap for one to answer.
     pub fn make(&self, names: &mut Variables, list: &mut [u32]) -> Result<(), Row>
         requires { RuleVarsIn self.now × (self.now.count ≤ length list.old) × (length names.old.sorts ≡ VARIABLES) × (names.old.count ≤ VARIABLES) }
         ensures made_as { (g : RuleVarsIn self.now) (vs : List Var) → length vs ≤ names.old.count →
@@ -73,8 +59,8 @@ impl RuleVars<'_> {
 }
 
 impl Inverting<'_> {
-    // The variables of the case in front, which must suit the rule and be new (question 42), come into the list, and join the set. What is answered is
-    // the number of the case's fact.
+    // The variables of the case in front, which must suit the rule and be new (question 42), come into the list, which is lent as for `make`, and join
+    // the set. What is answered is the number of the case's fact.
     pub fn case_vars(
         &self,
         cells: &[u32],
@@ -88,7 +74,7 @@ impl Inverting<'_> {
     {
         let case = read_case(&self.source.reader, cells)?;
         let own = &case.own[..case.variables];
-        if !need.suits(self.source.reader.vars, own) || !all_new(own, taken) {
+        if !need.suits(self.source.reader.vars, own) || !none_in(taken, own) {
             return Err(Question::CaseVariables);
         }
         insert_all(own, taken);

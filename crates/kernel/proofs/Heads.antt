@@ -1,19 +1,15 @@
 -- The heads of the rules' conclusions, and the rules of a predicate one after the other. Assumes nothing.
-use Rattle.std.specs.Prelude.{Some as some, None as nothing}
 use mathlib.Core.Path.{◌≡◌, refl, sym, ap, ◌∙◌}
-use Prim.Native.Nat.{ℕ, ◌+◌, ◌<◌, ◌≤◌}
-use mathlib.Core.Bool.{Bool, true, false}
+use Prim.Native.Nat.{ℕ, ◌<◌}
 use mathlib.Core.List.{List}
 use native.Mathlib.Omega.{arith}
 use lib.Dec.{eqb}
 use lib.ListN.{length, get_or}
 use Rattle.rules.specs.Tree.{Tree, var, app}
-use Rattle.rules.specs.Laws.Find.{first_here, first_later, first_over}
-use Rattle.rules.specs.Theory.{Theory, Rule, no_rule, rule, head_is}
+use Rattle.rules.specs.Theory.{Theory, rule, head_is}
 use Rattle.rules.specs.Laws.Theory.{Judgment}
-use Rattle.kernel.specs.Readers.{conclusion_at, FormedRules, SomeFormedRules, KnownFormedRule}
-use Rattle.kernel.specs.Entries.{formed_rule, rule_formed}
-use Rattle.kernel.specs.Listing.{next_rule}
+use Rattle.kernel.specs.Readers.{conclusion_at, FormedRules, KnownFormedRule}
+use Rattle.kernel.specs.Entries.{rule_formed}
 use Rattle.kernel.specs.RuleWords.{conclusion_stands}
 use Rattle.terms.specs.Patterns.{Stands}
 
@@ -48,41 +44,3 @@ module _ {symbols rules patterns : List ℕ} {r : ℕ} (k : KnownFormedRule symb
   pub head_is_lem : (p : ℕ) (T : Theory) (count : ℕ) → FormedRules symbols rules patterns count T → r < count →
       eqb p (get_or patterns place 0) ≡ head_is p (rule T r).conclusion
   head_is_lem p T count f l = ap (λ (n : ℕ). eqb p (get_or patterns n 0)) (a T count f l) ∙ (head_here T count f l).is p
-
--- Rules one after the other ------------------------------------------------------------------------------------------------------
-
--- a search for a rule of a predicate that stands at a rule
-pub record Scanning (symbols rules patterns : List ℕ) (count predicate from i : ℕ) : Type 0 where
-  pub counted : SomeFormedRules symbols rules patterns count
-  pub same : (T : Theory) → FormedRules symbols rules patterns count T → next_rule T predicate from ≡ next_rule T predicate i
-
-pub scanning_start : {symbols rules patterns : List ℕ} {count : ℕ} (predicate from : ℕ) → SomeFormedRules symbols rules patterns count →
-    Scanning symbols rules patterns count predicate from from
-scanning_start predicate from s = record { counted = s; same = λ T f. refl }
-
-module _ {symbols rules patterns : List ℕ} {count predicate from i : ℕ} (k : Scanning symbols rules patterns count predicate from i) where
-  pub scanning_known : i < count → KnownFormedRule symbols rules patterns i
-  scanning_known l = formed_rule k.counted.1 l
-
-  module _ (l : i < count) (b : Bool)
-      (a : (T : Theory) (n : ℕ) → FormedRules symbols rules patterns n T → i < n → b ≡ head_is predicate (rule T i).conclusion) where
-    pub scanning_here : b ≡ true → (T : Theory) → FormedRules symbols rules patterns count T → some i ≡ (next_rule T predicate from)
-    unfolding next_rule rule
-    scanning_here e T f =
-        (sym
-        (k.same T f
-        ∙ first_here (λ (r : Rule). head_is predicate r.conclusion) T.rules i no_rule (omega (arith, l, f.held.many)) (sym (a T count f l) ∙ e)))
-
-    pub scanning_on : b ≡ false → Scanning symbols rules patterns count predicate from (i + 1)
-    unfolding next_rule rule
-    scanning_on e =
-        record {
-          counted = k.counted;
-          same = λ T f. k.same T f
-              ∙ first_later (λ (r : Rule). head_is predicate r.conclusion) T.rules i no_rule (omega (arith, l, f.held.many)) (sym (a T count f l) ∙ e);
-        }
-
-  pub scanning_over : count ≤ i → (T : Theory) → FormedRules symbols rules patterns count T → nothing ≡ (next_rule T predicate from)
-  unfolding next_rule
-  scanning_over l T f =
-      (sym (k.same T f ∙ first_over (λ (r : Rule). head_is predicate r.conclusion) T.rules i (omega (arith, l, f.held.many))))

@@ -22,6 +22,7 @@ use Rattle.questions.specs.Numbers.{number_of, detail_of}
 use Rattle.sexp.specs.declared.sexp.Form.{Form}
 use Rattle.kernel.specs.Parsed.{TheoryLists, TheoryHeld, Formed, DeclaredAs, Taken, Exact, Run, counts_of, no_counts, theory_of, verdict, CountsFit, wiped, theory_tables}
 use Rattle.kernel.specs.declared.tables.Counts.{Counts}
+use Rattle.kernel.proofs.Handed.{behind, behind_err}
 use Rattle.kernel.proofs.Laid.{counts_are, within_of, laid_of, laid_held}
 
 -- What is held at the end ----------------------------------------------------------------------------------------------------------
@@ -96,8 +97,10 @@ module _ {text w₀ w : List ℕ} {t : TheoryLists} {held : Counts} {forms at : 
   pub ended : r ≡ Ok nothing → Run text t held (through declare (read text) 0 no_theory) (Ok forms) × (v ≡ w₀)
   ended e = let a = going_ends g.going k e in (run_done g.T g.theory _ forms a.0, a.1)
 
-  pub failed : {q : Question} → r ≡ Err q → Run text t held (through declare (read text) 0 no_theory) (Err (record { question = q; form = forms })) × (v ≡ w₀)
-  failed {q} e = let a = going_fails g.going k e in (run_refused g.T g.theory _ q forms a.0, a.1)
+  pub failed : {f : Refused} → behind forms r ≡ Err f → Run text t held (through declare (read text) 0 no_theory) (Err f)
+  failed e =
+      let q = behind_err forms r e in
+      subst (λ f. Run text t held (through declare (read text) 0 no_theory) (Err f)) q.2 (run_refused g.T g.theory _ q.0 forms (going_fails g.going k q.1).0)
 
   module _ {form : Form} (e : r ≡ Ok (some form)) where
     abbrev pub it : FormIs text at w v form.end form.cells
@@ -107,20 +110,21 @@ module _ {text w₀ w : List ℕ} {t : TheoryLists} {held : Counts} {forms at : 
     unfolding encode
     formed = record { encoded = it.holds.cells ∙ append-nil (encode it.form); spelt = it.holds.spelt.0 }
 
-    module _ (t' : TheoryLists) (m : Counts) {d : Result Unit Question} (s : DeclaredAs text t' m g.T (declare it.form g.T) d) where
-      pub declared_no : {q : Question} → d ≡ Err q → Run text t' m (through declare (read text) 0 no_theory) (Err (record { question = q; form = forms }))
-      declared_no {q} f =
-          let z : DeclaredAs text t' m g.T (declare it.form g.T) (Err q) = subst (DeclaredAs text t' m g.T (declare it.form g.T)) f s in
-          run_refused g.T z.1 _ q forms (going_refused g.going k e z.0)
+    module _ (t' : TheoryLists) (m : Counts) (d : Result Unit Question) (s : DeclaredAs text t' m g.T (declare it.form g.T) d) where
+      pub declared_no : {f : Refused} → behind forms d ≡ Err f → Run text t' m (through declare (read text) 0 no_theory) (Err f)
+      declared_no b =
+          let q = behind_err forms d b in
+          let z : DeclaredAs text t' m g.T (declare it.form g.T) (Err q.0) = subst (DeclaredAs text t' m g.T (declare it.form g.T)) q.1 s in
+          subst (λ f. Run text t' m (through declare (read text) 0 no_theory) (Err f)) q.2 (run_refused g.T z.1 _ q.0 forms (going_refused g.going k e z.0))
 
       pub declared_ok : {y : Unit} {u : List ℕ} → d ≡ Ok y → u ≡ replicate form.cells 0 ++ drop form.cells v → Underway text w₀ u t' m (forms + 1) form.end
       declared_ok {y} f c =
           let z : Taken text t' (declare it.form g.T) m = subst (DeclaredAs text t' m g.T (declare it.form g.T)) f s in
           record { T = z.now; theory = z.held; going = going_taken g.going k e z.is c }
 
-pub no_error : {E : Type 0} (r : Result Unit E) → ((e : E) → r ≡ Err e → ⊥) → r ≡ Ok tt
-no_error (Ok tt) n = refl
-no_error (Err e) n = absurd (n e refl)
+pub no_form : (r : Option Form) → ((f : Form) → r ≡ some f → ⊥) → r ≡ nothing
+no_form nothing n = refl
+no_form (some f) n = absurd (n f refl)
 
 -- The answer of `parse_exact` ------------------------------------------------------------------------------------------------------------
 

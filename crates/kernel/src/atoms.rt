@@ -15,7 +15,7 @@ pub fn marked(text: &[u8], start: usize) -> bool
     text[start] == b'?'
 }
 
-// A name's two cells.
+// The two cells of a part: of a name, or of a rule's words.
 pub fn put_name(table: &mut [u32], at: usize, name: Span)
     requires { NameFits (length table.old) at name.from name.end }
     ensures { table.new ≡ sets table.old at (name.from ∷ name.end ∷ []) }

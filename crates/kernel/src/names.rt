@@ -7,6 +7,7 @@ ghost use Rattle.kernel.specs.Held.{SymbolsHeld};
 ghost use Rattle.kernel.specs.Readers.{NamedSymbols};
 ghost use Rattle.kernel.specs.Named.{SymbolAt, SomeSymbol, SymbolRows, SomeSymbols, kind_of, called};
 
+use cells::span_at;
 use sexp::names::same;
 
 #[derive(Clone, Copy, Debug, PartialEq, Eq)]
@@ -44,10 +45,8 @@ impl SymbolTable<'_> {
     {
         let first = 4 * row;
         if kind.has(self.rows[first]) {
-            let at = first + 2;
-            let start = self.rows[at] as usize;
-            let end = self.rows[at + 1] as usize;
-            return same(&self.text[start..end], name);
+            let span = span_at(self.rows, first + 2);
+            return same(&self.text[span.from..span.end], name);
         }
         false
     }
@@ -58,13 +57,7 @@ impl SymbolTable<'_> {
         ensures { (ss : List Symbol) → SymbolRows self.now.text.now self.now.rows.now self.now.count ss →
             result ≡ first (called kind name.now) ss 0 }
     {
-        // a `for`: what would have to be proved of `find`'s closure is more than this loop's invariant
-        for i in 0..self.count {
-            if self.is_symbol(i, kind, name) {
-                return Some(i);
-            }
-        }
-        None
+        (0..self.count).find(|i| self.is_symbol(*i, kind, name))
     }
 
     // The constructor with these bytes for a name.

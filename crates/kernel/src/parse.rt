@@ -25,22 +25,19 @@ fn declarations(text: &[u8], cells: &mut [u32], tables: &mut Tables<'_>) -> Resu
 {
     let mut forms = 0;
     let mut at = 0;
-    // from form to form, which is no count; a form is read into lent cells, which no iterator could lend on
+    // From form to form, which is no count; a form is read into lent cells and declared into lent tables: an iterator could not lend the cells on, and a
+    // walker that is handed what to do with a form would be handed all of these and their contracts with it.
     loop {
-        match read_form(text, at, cells) {
-            Ok(None) => return Ok(forms),
-            Ok(Some(form)) => {
-                let declared = declare(text, &cells[..form.cells], tables);
-                clear(&mut cells[..form.cells]);
-                if let Err(question) = declared {
-                    return Err(question.behind(forms));
-                }
-                forms += 1;
-                at = form.end;
-            }
-            // a text that was read whole before is not refused here
-            Err(question) => return Err(question.behind(forms)),
-        }
+        // a text that was read whole before is not refused here
+        let next = read_form(text, at, cells).map_err(|question| question.behind(forms))?;
+        let Some(form) = next else {
+            return Ok(forms);
+        };
+        let declared = declare(text, &cells[..form.cells], tables);
+        clear(&mut cells[..form.cells]);
+        declared.map_err(|question| question.behind(forms))?;
+        forms += 1;
+        at = form.end;
     }
 }
 

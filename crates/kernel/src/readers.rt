@@ -52,7 +52,7 @@ pub fn next_constructor(symbols: &[u32], count: usize, sort: usize, from: usize)
     ensures { (T : Theory) (text inputs : List ℕ) → SymbolsHeld text symbols.now inputs count T.symbols →
         result ≡ next_constructor T sort from }
 {
-    // a `for`: what would have to be proved of `find`'s closure is more than this loop's invariant
+    // a `for`: tried with `find`, whose closure compares what a call answers: the proof does not close, since it is handed nothing of that call
     for i in from..count {
         if output(symbols, i) == sort {
             return Some(i);

@@ -106,8 +106,7 @@ fn store(
     put_name(rules, at, row.name);
     rules[at + 2] = row.variables as u32;
     rules[at + 3] = row.premises as u32;
-    rules[at + 4] = row.words.from as u32;
-    rules[at + 5] = row.words.end as u32;
+    put_name(rules, at + 4, row.words);
     write(&mut vars[3 * rules::RULEVARS * count..], names);
     Ok(())
 }
@@ -138,6 +137,7 @@ pub fn add_rule(
         inputs,
         count: held.symbols,
     };
+    // a row of its own with its length beside it, since the core allocates nothing
     let mut row = [0u32; 3 * rules::RULEVARS];
     let size = read_rule(&known, form, &mut row, patterns, held.words)?;
     let name = proper_at(text, form, 1)?;

@@ -1,6 +1,6 @@
 // Reading the tables of rules: a rule's name, variables, premises and words by its number, its number and that of a variable by name, and
 // the rules of a predicate one after the other.
-ghost use Rattle.std.specs.Prelude.{◌≡◌, ℕ, ◌+◌, ◌<◌, List, length, get_or};
+ghost use Rattle.std.specs.Prelude.{◌≡◌, ℕ, ◌<◌, List, length, get_or};
 ghost use Rattle.rules.specs.Text.{same};
 ghost use Rattle.rules.specs.Find.{first};
 ghost use Rattle.rules.specs.Tree.{count_trees};
@@ -11,7 +11,7 @@ ghost use Rattle.kernel.specs.HeldRules.{RulesHeld};
 ghost use Rattle.kernel.specs.Readers.{KnownRule, KnownVar, NamedRules, NamedVars, WordsAt, FormedRules, KnownFormedRule, SomeFormedRules, conclusion_at};
 ghost use Rattle.kernel.specs.Listing.{next_rule};
 
-use cells::Span;
+use cells::{Span, span_at};
 use sexp::names::named;
 use terms::patterns::Patterns;
 
@@ -21,17 +21,6 @@ pub struct Rules<'a> {
     pub rows: &'a [u32],
     pub vars: &'a [u32],
     pub patterns: &'a [u32],
-}
-
-// The part that two cells of a table give, the first of them at that place.
-fn span_at(table: &[u32], at: usize) -> Span
-    requires { at + 1 < length table.now }
-    ensures { result ≡ record { from = get_or table.now at 0; end = get_or table.now (at + 1) 0 } }
-{
-    Span {
-        from: table[at] as usize,
-        end: table[at + 1] as usize,
-    }
 }
 
 impl<'a> Rules<'a> {
@@ -139,12 +128,6 @@ impl<'a> Rules<'a> {
         requires { SomeFormedRules symbols.now self.now.rows.now self.now.patterns.now count }
         ensures { (T : Theory) → FormedRules symbols.now self.now.rows.now self.now.patterns.now count T → result ≡ next_rule T predicate from }
     {
-        // a `for`: what would have to be proved of `find`'s closure is more than this loop's invariant
-        for i in from..count {
-            if self.concludes(symbols, i, predicate) {
-                return Some(i);
-            }
-        }
-        None
+        (from..count).find(|i| self.concludes(symbols, *i, predicate))
     }
 }

@@ -98,6 +98,7 @@ pub fn add_ctor(text: &[u8], form: &[u32], tables: &mut Tables<'_>) -> Result<()
         Leaving text.now tables.new T (add_ctor xs T) result }
 {
     let name = proper_at(text, form, 1)?;
+    // a row of its own with its length beside it, since the core allocates nothing
     let mut row = [0u32; rules::ARGUMENTS];
     let held = tables.held;
     let sorts = &mut *tables.sorts;
@@ -121,6 +122,7 @@ pub fn add_pred(text: &[u8], form: &[u32], tables: &mut Tables<'_>) -> Result<()
         Leaving text.now tables.new T (add_pred xs T) result }
 {
     let name = proper_at(text, form, 1)?;
+    // a row of its own with its length beside it, since the core allocates nothing
     let mut row = [0u32; rules::ARGUMENTS];
     let held = tables.held;
     let sorts = &mut *tables.sorts;

@@ -8,8 +8,8 @@ use std::io::Write;
 use std::{fmt, io};
 use terms::sets::has;
 
-// What stands before item i of a list: one space between two of them. One writer of lists that is handed a closure is no plainer: numbers are written to a
-// `fmt::Write`, terms and variables to an `io::Write`.
+// What stands before item i of a list: one space between two of them. One writer for numbers and names, over an iterator of what is `Display`, was tried: its
+// loop has to be proved to end for every iterator, which is no plainer. Terms need the heap, so that they are no `Display`.
 fn gap(i: usize) -> &'static str {
     if i == 0 { "" } else { " " }
 }

@@ -13,7 +13,7 @@ use std::{fs, io};
 // Bytes that are read of a text: one more than it may have, so that a longer one is refused.
 const TEXT: usize = rules::LENGTH + 1;
 
-// Linux's numbers of two errors, for arguments that cannot be had.
+// Linux's numbers of two errors, for arguments that cannot be had: the message is what the system says of a number, and an `ErrorKind` has words of its own.
 const MISSING: i32 = 22;
 
 const TOO_LONG: i32 = 36;

@@ -1,3 +1,4 @@
+pub mod Earlier
 pub mod Pairs
 pub mod Binds
 pub mod Atoms

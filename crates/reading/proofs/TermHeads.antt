@@ -1,7 +1,9 @@
 -- The symbol that a list begins with: what the definition makes of the items, from what was found of the first. Assumes nothing.
-use mathlib.Core.Path.{◌≡◌, refl, sym, ap, ◌∙◌}
+use mathlib.Core.Path.{◌≡◌, refl, sym, ap, ◌∙◌, subst}
 use mathlib.Core.Bool.{Bool}
-use Rattle.std.specs.Prelude.{Option, Some as some, None as nothing}
+use Rattle.std.specs.Prelude.{Option, Some as some, None as nothing, Result, ok_or}
+use Rattle.questions.specs.declared.Question.{Question}
+use Rattle.questions.specs.declared.Question.TheVariants.{Spelling}
 use mathlib.Core.List.{List}
 use Prim.Native.Nat.{ℕ, ◌-◌, ◌≤◌, ◌<◌}
 use native.Mathlib.Omega.{arith}
@@ -22,7 +24,7 @@ use Rattle.sexp.specs.Each.{NameFirst, name_first}
 use Rattle.sexp.specs.FirstItem.{none_left, first_item, first_count}
 use Rattle.kernel.specs.Held.{SymbolsHeld}
 use Rattle.kernel.specs.Readers.{NamedSymbols}
-use Rattle.reading.specs.Heads.{Opens, Opened, finish}
+use Rattle.reading.specs.Heads.{Opens, Opened, OpenedAs, finish}
 
 -- Compound terms -------------------------------------------------------------------------------------------------------------------
 
@@ -184,3 +186,10 @@ module _ {theory text symbols : List ℕ} {known : ℕ} {cells : List ℕ} (g : 
             known = omega (arith, predicate_inside g.S.theory bs c named, g.held.many);
             is = λ M. judgment_is g.S M g.xs first.is named;
           }
+
+      pub judgment_told : {r : Result ℕ Question} → r ≡ ok_or q Spelling → OpenedAs text cells known g.S (judgment g.S (list g.xs)) r
+      judgment_told e = subst (OpenedAs text cells known g.S (judgment g.S (list g.xs))) (sym e) (by q refl)
+        where
+          by : (o : Option ℕ) → q ≡ o → OpenedAs text cells known g.S (judgment g.S (list g.xs)) (ok_or o Spelling)
+          by nothing w = judgment_missing w
+          by (some c) w = judgment_opened w

@@ -34,8 +34,9 @@ impl Reader<'_> {
         ensures { (g : VarsItems self.now.goals.now self.now.text.now self.now.vars.now self.now.n.vars cells.now) →
             VarsAs g.S.vars (list g.xs) out.new out.new result }
     {
+        // an array, since there is no heap and nothing of the core allocates
         let mut seen = [0u64; VARIABLEWORDS];
-        // `k` is answered: an `enumerate` would leave it to a second walk or a variable beside it, which is no plainer
+        // `k` is answered: with `enumerate` the items would be counted by a second walk, `items::count`
         let mut k = 0;
         for item in items::all(cells) {
             let v = self.variable(item)?;

@@ -29,13 +29,10 @@ impl Reader<'_> {
         requires { FirstItem self.now.text.now cells.now }
         ensures { EarlierAs self.now cells.now result }
     {
-        let Some(i) = index(self.text, cells) else {
-            return Err(Question::Earlier);
-        };
-        if !is_fact(self.n, i) {
-            return Err(Question::Earlier);
-        }
-        Ok(i)
+        let n = self.n;
+        index(self.text, cells)
+            .filter(|i| is_fact(n, *i))
+            .ok_or(Question::Earlier)
     }
 
     // The variable that the first item names.

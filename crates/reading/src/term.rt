@@ -180,10 +180,9 @@ impl Reader<'_> {
         let Some(name) = items::head(self.text, cells) else {
             return Err(Question::Spelling);
         };
-        let Some(p) = self.symbol_table().predicate_named(name) else {
-            return Err(Question::Spelling);
-        };
-        Ok(p)
+        self.symbol_table()
+            .predicate_named(name)
+            .ok_or(Question::Spelling)
     }
 
     // The constructor over its arguments that the items of a list spell.
@@ -195,14 +194,15 @@ impl Reader<'_> {
             TypedAs store.old store.new g.S (compound g.S g.xs (made_of store.old)) result }
     {
         let c = self.constructor_first(cells)?;
+        // as long as the longest node: there is no heap, and nothing of the core allocates
         let mut node = [0u32; NODE];
         let len = self.arguments(store, &cells[1..], c, &mut node)?;
         keep_typed(store, &node[..len], output(self.symbols, c))
     }
 
     // The terms that the items spell, as the arguments of symbol c. They must be as many as its inputs and each of its sort: then the node is that of c
-    // over them, and what is answered is how long it is. `k` is in the answer: an `enumerate` would leave it to a second walk or a variable beside it,
-    // which is no plainer.
+    // over them, and what is answered is how long it is. `k` is in the answer: with `enumerate` the items would be counted by
+    // a second walk, `items::count`.
     #[cycle(arguments_compound_term)]
     fn arguments(
         &self,
@@ -263,6 +263,7 @@ impl Reader<'_> {
         };
         let inner = &cells[a..b];
         let p = self.predicate_first(inner)?;
+        // an array, as in `compound`
         let mut node = [0u32; NODE];
         let len = self.arguments(store, &inner[1..], p, &mut node)?;
         Ok(store.keep(&node[..len])?)

@@ -7,6 +7,9 @@ use std::io::{BufRead, Read};
 // Bytes that a part has at most: twice what the longest has.
 const PART: u64 = 131072;
 
+// Bytes that a line of numbers has at most: seven of nine digits take less.
+const LINE: u64 = 80;
+
 // Its parts. The facts and footings that are recorded stand one behind the other.
 #[derive(Drop)]
 pub struct Case {
@@ -28,19 +31,16 @@ impl Case {
     }
 }
 
-// A number in decimal, with the byte that ends it. One of more than nine digits is cut.
-fn read_number<R: BufRead>(input: &mut R) -> io::Result<u64> {
-    let mut value = 0u64;
-    for byte in input.by_ref().bytes() {
-        let byte = byte?;
-        if !byte.is_ascii_digit() {
-            break;
-        }
-        if value < 100000000 {
-            value = 10 * value + u64::from(byte - b'0');
-        }
+// A line of numbers in decimal, a space between two of them. One that is missing, or is none, counts as 0.
+fn read_numbers<R: BufRead, const N: usize>(alloc: Global, input: &mut R) -> io::Result<[u64; N]> {
+    let mut line = Vec::new(alloc);
+    input.by_ref().take(LINE).read_until(b'\n', &mut line)?;
+    let words = str::from_utf8(&line).unwrap_or("").split_ascii_whitespace();
+    let mut numbers = [0u64; N];
+    for (number, word) in numbers.iter_mut().zip(words) {
+        *number = word.parse().unwrap_or(0);
     }
-    Ok(value)
+    Ok(numbers)
 }
 
 fn read_part<R: BufRead>(alloc: Global, input: &mut R, many: u64) -> io::Result<Vec<u8>> {
@@ -50,8 +50,8 @@ fn read_part<R: BufRead>(alloc: Global, input: &mut R, many: u64) -> io::Result<
 }
 
 // The header is its length on a line, and so many bytes.
-pub fn skip_header<R: BufRead>(input: &mut R) -> io::Result<()> {
-    let many = read_number(input)?;
+pub fn skip_header<R: BufRead>(alloc: Global, input: &mut R) -> io::Result<()> {
+    let [many]: [u64; 1] = read_numbers(alloc, input)?;
     io::copy(&mut input.by_ref().take(many), &mut io::sink())?;
     Ok(())
 }
@@ -61,13 +61,9 @@ pub fn read_case<R: BufRead>(alloc: Global, input: &mut R) -> io::Result<Option<
     if input.fill_buf()?.is_empty() {
         return Ok(None);
     }
-    let name = read_number(input)?;
-    let theory = read_number(input)?;
-    let goals = read_number(input)?;
-    let proof = read_number(input)?;
-    let answer = read_number(input)?;
-    let facts = read_number(input)?;
-    let footings = read_number(input)?;
+    let [name, theory, goals, proof, answer, facts, footings]: [u64; 7] = read_numbers(
+        alloc, input,
+    )?;
     let case = Case {
         name: read_part(alloc, input, name)?,
         theory: read_part(alloc, input, theory)?,

@@ -17,11 +17,7 @@ impl Write for Expected<'_> {
     fn write(&mut self, buf: &[u8]) -> io::Result<usize> {
         if let Some(rest) = self.rest {
             let (now, later) = rest.split_at(rest.len().min(buf.len()));
-            self.rest = if buf.starts_with(now) {
-                Some(later)
-            } else {
-                None
-            };
+            self.rest = buf.starts_with(now).then_some(later);
         }
         Ok(buf.len())
     }
@@ -33,7 +29,7 @@ impl Write for Expected<'_> {
 
 // Whether facts and footings are compared: `-` stands for whatever they are.
 fn is_stored(recorded: &[u8]) -> bool {
-    recorded.len() != 2 || recorded[0] != b'-'
+    !matches!(recorded, [b'-', _])
 }
 
 // Whether what is written begins with all that is wanted.

@@ -16,7 +16,7 @@ const CASES: usize = 100000;
 // All cases of the input; how many.
 fn replay_all(rt: &HostRuntime) -> io::Result<usize> {
     let mut input = BufReader::new(rt.alloc(), rt.reader())?;
-    skip_header(&mut input)?;
+    skip_header(rt.alloc(), &mut input)?;
     for many in 0..CASES {
         let Some(case) = read_case(rt.alloc(), &mut input)? else {
             return Ok(many);

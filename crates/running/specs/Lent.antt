@@ -1,5 +1,5 @@
--- The tables as a caller lends them, of whatever length: their named parts, on which a check works, and what lies behind these and stays. And the records
--- of facts beside the rows in which the forms read them. Assumes nothing.
+-- The tables as a caller lends them, of whatever length: their named parts, on which a check works, and what lies behind these and stays. And records of
+-- facts that are rows of cells one by one, for the law of a call whose records stand beside its rows. Assumes nothing.
 use Rattle.std.specs.Prelude.{◌≡◌, ℕ, ◌*◌, ◌≤◌, List, length, take, drop}
 use Rattle.rules.specs.Limits.{SORTS, SYMBOLS, ARGUMENTS, RULES, RULEVARS, PATTERNS, VARIABLES, TERMS, WORDS, DEFS, GOALS, ENTRIES}
 use Rattle.kernel.specs.Parsed.{TheoryLists, theory_lists}

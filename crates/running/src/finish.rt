@@ -29,7 +29,8 @@ pub struct Report {
     pub instances: usize,
 }
 
-// Number; text: 0 none, 1 theory, 2 goals, 3 proof; complete forms before it; detail. They are numbers since programs in other languages read them.
+// Number; text: 0 none, 1 theory, 2 goals, 3 proof; complete forms before it; detail. These are the four numbers of the definition's refusal;
+// question 1 is put to no text, so that a `Stopped` does not hold it.
 #[derive(Clone, Copy, Debug, PartialEq, Eq)]
 pub struct Refusal {
     pub number: usize,
@@ -52,7 +53,8 @@ impl From<Stopped> for Refusal {
     }
 }
 
-// The goals without a result come into the list, numbered from 1; how many they are.
+// The goals without a result come into the list, numbered from 1; how many they are. `many` is kept by hand: behind a zip with `iter_mut` nothing is known of
+// what was written.
 fn list_missing(rows: &[u32], count: usize, missing: &mut [u32]) -> usize
     requires { GoalRows rows.now count × (missing.old ≡ replicate GOALS 0) }
     ensures { (g : GoalRows rows.now count) → (result ≡ length (unproved g.gs)) × (missing.new ≡ filled GOALS (unproved g.gs)) }

@@ -49,13 +49,14 @@ fn prove(
 {
     let mut at = 0;
     let mut forms = 0;
-    // from form to form, which is no count; `next_form` fills lent tables, which an iterator would have to hold and lend on
+    // from form to form: how many there are is not known before; `next_form` fills lent tables, which an iterator would have to hold and lend on
     loop {
-        let step = match next_form(given, board, store, scratch, at) {
-            Ok(Some(step)) => step,
-            Ok(None) => return Ok(forms),
-            // by hand, as in `begin`: a closure for `map_err` would have to say what it answers
-            Err(question) => return Err(Stopped::left_in(Text::Proof, question.behind(forms))),
+        let next = next_form(given, board, store, scratch, at).map_err(|question| Stopped::left_in(
+            Text::Proof,
+            question.behind(forms),
+        ))?;
+        let Some(step) = next else {
+            return Ok(forms);
         };
         add(counts, step.counts);
         forms += 1;
@@ -79,7 +80,7 @@ fn run(
 {
     let cells = &mut *scratch.cells;
     begin(texts, tables, board, store, cells)?;
-    let given = given_of(texts.theory, texts.goals, texts.proof, tables);
+    let given = given_of(texts, texts.proof, tables);
     prove(&given, board, store, scratch, counts)
 }
 

@@ -1,7 +1,7 @@
 -- Kinds of bytes, from the tests that the code makes. Assumes nothing.
 use mathlib.Core.Path.{◌≡◌, refl, sym, ap, ◌∙◌}
 use mathlib.Core.Bool.{Bool, true, false, cond, not}
-use Prim.Native.Nat.{ℕ, ◌+◌, ◌-◌, ◌≤◌, ◌<◌}
+use Prim.Native.Nat.{ℕ, ◌+◌, ◌≤◌, ◌<◌}
 use mathlib.Core.List.{List}
 use native.Mathlib.Omega.{arith}
 use lib.Dec.{eqb}
@@ -10,7 +10,11 @@ use borrow.Author.Tests.{ne_eqb, le-leb, lt-leb}
 use Rattle.rules.specs.Text.{same}
 use Rattle.rules.specs.Lex.{Kind, blank, left, right, semicolon, letter, white, kind, letters}
 use Rattle.rules.specs.Laws.Lex.{kind_blank, kind_left, kind_right, kind_semicolon, kind_letter, place_letters_more, place_letters_none, letters_end}
-use Rattle.rules.specs.Laws.Text.{same_equal, same_on, same_over}
+use Rattle.rules.specs.Laws.Text.{same_equal, same_self}
+use Rattle.std.specs.Prelude.{reverse}
+use Rattle.std.specs.Bool.{Decides}
+use Rattle.std.proofs.lemmas.Bool.Decides.{same_from_decides}
+use Rattle.std.proofs.lemmas.List.{reverse-reverse}
 use Rattle.sexp.specs.Lexed.{wide, is_letter}
 
 -- white space
@@ -117,27 +121,9 @@ letters_off text p h k = omega (arith, ap length (place_letters_none text p h k)
 pub letters_over : (text : List ℕ) (p : ℕ) → length text ≤ p → p + length (letters (drop p text)) ≡ p
 letters_over text p h = omega (arith, ap length (letters_end text p h))
 
--- names
-
-pub same_differs : (s t : List ℕ) (i : ℕ) → (get_or s i 0 ≡ get_or t i 0 → ⊥) → same s t ≡ false
-same_differs s t i h = go (same s t) refl
-  where
-    go : (b : Bool) → same s t ≡ b → same s t ≡ false
-    go true e = absurd (h (ap (λ (l : List ℕ). get_or l i 0) (same_equal s t e)))
-    go false e = e
-
--- two names of one length, from their ends on
-module _ (s t : List ℕ) (l : length s ≡ length t) where
-  pub same_end : (at : ℕ) → at ≡ length s → same (drop at s) (drop at t) ≡ true
-  same_end at e = same_over s t at (omega arith) (omega arith)
-
-  pub same_before : (at : ℕ) → 0 < at → at ≤ length s → get_or s (at - 1) 0 ≡ get_or t (at - 1) 0 → same (drop at s) (drop at t) ≡ true
-      → same (drop (at - 1) s) (drop (at - 1) t) ≡ true
-  same_before at p q e h =
-      let one : at - 1 + 1 ≡ at = omega arith in
-      same_on s t (at - 1) (omega arith) (omega arith) e ∙ ap (λ (k : ℕ). same (drop k s) (drop k t)) one ∙ h
-
-  pub same_whole : (at : ℕ) → at ≤ 0 → same (drop at s) (drop at t) ≡ true → true ≡ same s t
-  same_whole at p h =
-      let none : at ≡ 0 = omega arith in
-      sym (sym (ap (λ (k : ℕ). same (drop k s) (drop k t)) none) ∙ h)
+-- names: the same bytes from their ends on are the same bytes
+pub same_reverse : (s t : List ℕ) (r : Bool) → Decides r (reverse s ≡ reverse t) → r ≡ same s t
+same_reverse s t r d =
+    same_from_decides r (same s t)
+    ((λ e. sym (reverse-reverse s) ∙ ap reverse (d.0 e) ∙ reverse-reverse t), λ (e : s ≡ t). d.1 (ap reverse e))
+    (same_equal s t, λ e. ap (same s) (sym e) ∙ same_self s)

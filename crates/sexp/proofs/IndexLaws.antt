@@ -1,14 +1,18 @@
 -- An index, a digit at a time. Assumes nothing.
 use mathlib.Core.Path.{◌≡◌, refl, sym, ap, ◌∙◌}
 use mathlib.Core.Bool.{Bool, true, false, ◌&&◌}
-use Rattle.std.specs.Prelude.{Option, Some as some, None as nothing}
+use Rattle.std.specs.Prelude.{MatchOption, Option, Some as some, None as nothing}
 use mathlib.Core.List.{List, [], ◌∷◌}
 use Prim.Native.Nat.{ℕ, ◌+◌, ◌-◌, ◌*◌, ◌^◌, ◌≤◌, ◌<◌}
 use native.Mathlib.Omega.{arith}
 use lib.ListN.{length, get_or, take, drop, drop_of_length-le}
-use lib.Seq.{take_all}
-use lib.Dec.{ltb}
-use borrow.Author.Tests.{eq-eqb, ne_eqb, lt-ltb, le-ltb}
+use lib.Dec.{eqb, ltb}
+use lib.Pointwise.{pointwise}
+use denote.Bor.{Bor}
+use Rattle.std.specs.Option.{unwrap_or}
+use Rattle.std.proofs.lemmas.Bool.{and_parts}
+use Rattle.sexp.specs.Never.{never}
+use borrow.Author.Tests.{eqb-true, eq-eqb, ne_eqb, lt-ltb, le-ltb}
 use Rattle.rules.specs.Index.{digit, digits, value, unsigned, index_of}
 use Rattle.rules.specs.Laws.Lex.{drop_at}
 use Rattle.std.proofs.Math.Bool.{and-false}
@@ -100,11 +104,6 @@ module _ {D : List ℕ} {n at : ℕ} (r : Reading D n at) where
         }
 
 -- the sign
-pub no_name : (D : List ℕ) → length D ≡ 0 → nothing ≡ (index_of D)
-unfolding index_of
-no_name [] e = refl
-no_name (b ∷ D) e = absurd (omega arith)
-
 index_signed : (b : ℕ) (D : List ℕ) → b ≡ 43 → index_of (b ∷ D) ≡ unsigned D
 unfolding index_of
 index_signed b D e = rw (eq-eqb b 43 e, index_of)
@@ -113,10 +112,14 @@ index_unsigned : (b : ℕ) (D : List ℕ) → (b ≡ 43 → ⊥) → index_of (b
 unfolding index_of
 index_unsigned b D e = rw (ne_eqb b 43 e, index_of)
 
-pub with_sign : (D : List ℕ) → (length D ≡ 0 → ⊥) → get_or D 0 0 ≡ 43 → (unsigned (take (length D - 1) (drop 1 D))) ≡ (index_of D)
-with_sign [] s e = absurd (s refl)
-with_sign (b ∷ D) s e = ap (λ l. (unsigned l)) (take_all (length (b ∷ D) - 1) D (omega arith)) ∙ (sym (index_signed b D e))
-
-pub without_sign : (D : List ℕ) → (length D ≡ 0 → ⊥) → (get_or D 0 0 ≡ 43 → ⊥) → (unsigned D) ≡ (index_of D)
-without_sign [] s e = absurd (s refl)
-without_sign (b ∷ D) s e = (sym (index_unsigned b D e))
+-- what is left without the sign, as `strip_prefix` answers
+module _ (name : Bor (List ℕ)) where
+  pub index_stripped : (D : List ℕ) → name.now ≡ D → (r : Option (Bor (List ℕ)))
+      → MatchOption r (pointwise eqb (take 1 D) (43 ∷ []) ≡ false) (λ x. (pointwise eqb (take 1 D) (43 ∷ []) ≡ true) × (x.now ≡ drop 1 D) × (length x.now + 1 ≡ length D))
+      → unsigned (unwrap_or r name).now ≡ index_of D
+  unfolding index_of unsigned
+  index_stripped [] e nothing k = ap unsigned e
+  index_stripped [] e (some x) k = let z : false ≡ true = k.0 in never cc
+  index_stripped (y ∷ ys) e nothing k =
+      ap unsigned e ∙ sym (index_unsigned y ys (λ f. let z : false ≡ true = sym k ∙ ap (λ t. t && true) (eq-eqb y 43 f) in never cc))
+  index_stripped (y ∷ ys) e (some x) k = ap unsigned k.1 ∙ sym (index_signed y ys (eqb-true y 43 (and_parts _ _ k.0).0))

@@ -7,7 +7,6 @@ pub mod OpenLists
 pub mod States
 pub mod Tallies
 pub mod Turns
-pub mod Lookings
 pub mod IndexLaws
 pub mod TagLaws
 pub mod Firsts

@@ -1,8 +1,10 @@
 -- The tables of the code are the definition's, and the first row that fits is the same. Assumes nothing.
-use Rattle.std.proofs.Common.{◌≡◌, refl, sym, ap, ◌∙◌, ℕ, ◌≤◌, ◌<◌, Bool, true, false, List, [], ◌∷◌, ◌+◌, suc, leb, length, get_or, drop, add-one, drop-cons, arith}
+use Rattle.std.proofs.Common.{◌≡◌, refl, sym, ap, ◌∙◌, ℕ, ◌≤◌, ◌<◌, Bool, true, false, List, [], ◌∷◌, leb}
 use Rattle.std.proofs.Math.Bool.{and-true, and-false}
-use Rattle.std.proofs.Math.Seq.{drop-length}
-use Rattle.std.specs.Prelude.{Option, Some as some, None as nothing}
+use Rattle.std.specs.Prelude.{Option, Some as some, None as nothing, MatchOption, cond}
+use Rattle.std.specs.List.{find}
+use Rattle.std.specs.Option.{option_map}
+use denote.Bor.{Bor}
 use borrow.Author.Tests.{le-leb, lt-leb}
 use Rattle.rules.specs.Text.{same}
 use Rattle.rules.specs.Tags.{Row, Tag, a_var, a_def, a_step, a_hyp, a_rule_hyp, an_induct, an_induct_with, an_apply, an_invert, a_result, Declaration, a_sort, a_ctor, a_pred, a_rule, GoalForm, a_variable, a_goal, a_goal_with, proof_tags, theory_tags, goal_tags, within, fits, tag_in, proof_tag, declaration, goal_form, index_in, index_place}
@@ -40,33 +42,20 @@ module _ {T : Type 0} (r : Row T) (x : List ℕ) (n : ℕ) where
 -- The search -------------------------------------------------------------------------------------------------------------------
 
 module _ {T : Type 0} (x : List ℕ) (n : ℕ) where
-  row_here : (r : Listed T) (rs : List (Listed T)) → fits (row_of r) x n ≡ true → row_in (r ∷ rs) x n ≡ some r
+  row_find : (rows : List (Listed T)) → row_in rows x n ≡ find (λ r. fits (row_of r) x n) rows
   unfolding row_in
-  row_here r rs e = rw (e, row_in)
+  row_find [] = refl
+  row_find (r ∷ rs) = go (fits (row_of r) x n) (row_find rs)
+    where
+      go : (b : Bool) → row_in rs x n ≡ find (λ r. fits (row_of r) x n) rs →
+          elim b [ true ↦ some r | false ↦ row_in rs x n ] ≡ cond b (some r) (find (λ r. fits (row_of r) x n) rs)
+      go true h = refl
+      go false h = h
 
-  row_on : (r : Listed T) (rs : List (Listed T)) → fits (row_of r) x n ≡ false → row_in (r ∷ rs) x n ≡ row_in rs x n
-  unfolding row_in
-  row_on r rs e = rw (e, row_in)
-
-  module _ (rows : List (Listed T)) (i : ℕ) (s : row_in rows x n ≡ row_in (drop i rows) x n) where
-    -- r stands at i
-    module _ (r : Listed T) (h : i < length rows) (k : r ≡ get_or rows i r) where
-      here : drop i rows ≡ r ∷ drop (suc i) rows
-      here = drop-cons rows i r h ∙ ap (λ (y : Listed T). y ∷ drop (suc i) rows) (sym k)
-
-      pub found : fits (row_of r) x n ≡ true → row_in rows x n ≡ some r
-      found e = s ∙ ap (λ (l : List (Listed T)). row_in l x n) here ∙ row_here r (drop (suc i) rows) e
-
-      pub next : fits (row_of r) x n ≡ false → row_in rows x n ≡ row_in (drop (i + 1) rows) x n
-      next e =
-          s ∙ ap (λ (l : List (Listed T)). row_in l x n) here ∙ row_on r (drop (suc i) rows) e
-          ∙ ap (λ (j : ℕ). row_in (drop j rows) x n) (sym (add-one i))
-
-    pub none_found : i ≤ length rows → length rows ≤ i → row_in rows x n ≡ nothing
-    unfolding row_in
-    none_found g h =
-        let e : i ≡ length rows = omega arith in
-        s ∙ ap (λ (j : ℕ). row_in (drop j rows) x n) e ∙ ap (λ (l : List (Listed T)). row_in l x n) (drop-length rows)
+  pub row_found : (rows : List (Listed T)) (o : Option (Bor (Listed T))) → option_map (λ r. r.now) o ≡ find (λ r. fits (row_of r) x n) rows →
+      MatchOption o (row_in rows x n ≡ nothing) (λ r. row_in rows x n ≡ some r.now)
+  row_found rows nothing e = row_find rows ∙ sym e
+  row_found rows (some r) e = row_find rows ∙ sym e
 
 -- The tag of the row found -----------------------------------------------------------------------------------------------------
 

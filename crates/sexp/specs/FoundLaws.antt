@@ -1,13 +1,14 @@
 -- Laws for those who look names up: what an answer says of the definition's look-up. Assumes nothing.
 use Rattle.std.proofs.Math.Path.{◌≡◌, refl, sym, ap}
 use Rattle.std.proofs.Common.{◌∙◌, arith}
-use Prim.Native.Nat.{ℕ, zero, suc, ◌<◌}
-use Rattle.std.specs.Prelude.{Bool, length, get_or, Option, Some as some, None as nothing}
+use Prim.Native.Nat.{ℕ, zero, suc, ◌+◌, ◌-◌, ◌<◌, ◌≤◌}
+use Rattle.std.proofs.Math.Decide.{dec_lt}
+use Rattle.std.specs.Prelude.{Bool, length, get_or, drop, MatchOption, Option, Some as some, None as nothing}
 use Rattle.std.proofs.Math.Bool.{true, false}
 use mathlib.Core.List.{List, [], ◌∷◌}
 use Rattle.rules.specs.Text.{same}
 use Rattle.rules.specs.Find.{first}
-use Rattle.rules.specs.Laws.Find.{first_some}
+use Rattle.rules.specs.Laws.Find.{first_some, first_here, first_later, first_over}
 use Rattle.rules.specs.Sexp.{Name}
 use Rattle.rules.specs.Theory.{no_name}
 use Rattle.sexp.specs.NameRows.{NameRows}
@@ -67,3 +68,30 @@ pub named_so : {A : Type 0} (f : A → Name) (xs : List A) {text table : List �
     NameRows text table w o count (names_of f xs) →
     r ≡ (first (λ x. same (f x).bytes name) xs 0)
 named_so f xs name r a h = a (names_of f xs) h ∙ (sym (first_name f xs name 0))
+
+-- A search over numbers, as `find` answers it, where what is said of a number decides the test of the entry there --------------------
+
+module _ {A : Type 0} (p : A → Bool) (xs : List A) (d : A) (from : ℕ) {count : ℕ} (many : length xs ≡ count) (Yes No : ℕ → Type 0)
+    (passes : (k : ℕ) → k < count → Yes k → p (get_or xs k d) ≡ true) (fails : (k : ℕ) → k < count → No k → p (get_or xs k d) ≡ false) where
+  passed_over : (n : ℕ) → from + n ≤ count → ((k : ℕ) → from ≤ k → k < from + n → No k) → first p (drop from xs) from ≡ first p (drop (from + n) xs) (from + n)
+  passed_over zero l h = ap (λ (k : ℕ). first p (drop k xs) k) (omega arith)
+  passed_over (suc n) l h =
+      passed_over n (omega arith) (λ k a b. h k a (omega arith))
+      ∙ first_later p xs (from + n) d (omega (arith, l, many)) (fails (from + n) (omega arith) (h (from + n) (omega arith) (omega arith)))
+      ∙ ap (λ (k : ℕ). first p (drop k xs) k) (omega arith)
+
+  pub first_is : (r : Option ℕ)
+      → MatchOption r ((k : ℕ) → from ≤ k → k < count → No k) (λ i. (from ≤ i) × (i < count) × Yes i × ((k : ℕ) → from ≤ k → k < i → No k))
+      → r ≡ first p (drop from xs) from
+  first_is nothing h =
+      elim (dec_lt count from) [
+        | yes l ↦ sym (first_over p xs from (omega (arith, l, many)))
+        | no l ↦
+            let e : from + (count - from) ≡ count = omega arith in
+            sym (passed_over (count - from) (omega arith) (λ k a b. h k a (omega (arith, b, e)))
+            ∙ ap (λ (k : ℕ). first p (drop k xs) k) e ∙ first_over p xs count (omega (arith, many)))
+      ]
+  first_is (some i) h =
+      let e : from + (i - from) ≡ i = omega (arith, h.0) in
+      sym (passed_over (i - from) (omega (arith, h.1, e)) (λ k a b. h.3 k a (omega (arith, b, e)))
+      ∙ ap (λ (k : ℕ). first p (drop k xs) k) e ∙ first_here p xs i d (omega (arith, h.1, many)) (passes i h.1 h.2))

@@ -93,16 +93,8 @@ fn skip_blocks<F: Fn(&[u8]) -> bool>(text: &[u8], from: usize, passes: F) -> usi
     ensures { (n : ℕ) × (result ≡ from + 64 * n) × (result ≤ length text.now)
         × ((k : ℕ) → k < n → FnReturnsAt F.Fn passes (take 64 (drop (from + 64 * k) text.now)) true) }
 {
-    let mut at = from;
-    // block after block, up to one that does not pass; a chain of chunks gives their number, and the place would be made of it again
-    while text.len() - at >= 64 {
-        let end = at + 64;
-        if !passes(&text[at..end]) {
-            return at;
-        }
-        at = end;
-    }
-    at
+    let blocks = text[from..].chunks_exact(64);
+    from + 64 * blocks.take_while(|block| passes(*block)).count()
 }
 
 // The place behind the atom that begins, or goes on, at a place. Most atoms are short, so that blocks are tried at each 64th place only.
@@ -126,6 +118,8 @@ pub fn atom_end(text: &[u8], start: usize) -> usize
 }
 
 // The place of the next byte 10, or the end of the text. Blocks begin at each 64th place, where the machine reads them fastest.
+// Not one function with `atom_end`: it would be handed the test of a byte and that of a block, with a contract for each and one that ties
+// the two, to share six lines of a loop.
 fn line_end(text: &[u8], from: usize) -> usize
     requires { from ≤ length text.now }
     ensures { LineEnd text.now from result }

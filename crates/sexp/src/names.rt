@@ -6,20 +6,16 @@ ghost use Rattle.rules.specs.Find.{first};
 ghost use Rattle.rules.specs.Sexp.{Name};
 ghost use Rattle.sexp.specs.NameRows.{NameRows, SomeNames};
 
-// Whether two names have the same bytes. Names of one tariff often share their beginnings, so the last bytes are looked at first, by a
-// `for` over the places in reverse.
+use cells::span_at;
+
+// Whether two names have the same bytes. Names of one tariff often share their beginnings, so the last bytes are looked at first.
 pub fn same(s: &[u8], t: &[u8]) -> bool
     ensures { result ≡ same s.now t.now }
 {
     if s.len() != t.len() {
         return false;
     }
-    for at in (0..s.len()).rev() {
-        if s[at] != t[at] {
-            return false;
-        }
-    }
-    true
+    s.iter().rev().zip(t.iter().rev()).all(|(a, b)| a == b)
 }
 
 // The value of an index without a sign: digits, at least one, of a value that fits. With a `+` or not the library's `parse` reads just that, but of a `str`:
@@ -45,13 +41,7 @@ fn unsigned(digits: &[u8]) -> Option<usize>
 pub fn index_of(name: &[u8]) -> Option<usize>
     ensures { result ≡ index_of name.now }
 {
-    if name.is_empty() {
-        return None;
-    }
-    if name[0] == b'+' {
-        return unsigned(&name[1..]);
-    }
-    unsigned(name)
+    unsigned(name.strip_prefix(b"+").unwrap_or(name))
 }
 
 // The number of the first of `count` rows whose name has these bytes: rows of `width` cells with the name from `place` on.
@@ -67,15 +57,9 @@ pub fn named(
     ensures { (ns : List Name) → NameRows text.now table.now width place count ns →
         result ≡ first (λ n. same n.bytes name.now) ns 0 }
 {
-    // a `for` and no `find`: what would have to be proved of its closure is more than this loop's invariant
     // an index and no `chunks_exact`: the rows may begin anywhere in the table, so that `place` lies behind the end of a chunk, and the last may be short
-    for i in 0..count {
-        let at = width * i + place;
-        let start = table[at] as usize;
-        let end = table[at + 1] as usize;
-        if same(&text[start..end], name) {
-            return Some(i);
-        }
-    }
-    None
+    (0..count).find(|i| {
+        let span = span_at(table, width * *i + place);
+        same(&text[span.from..span.end], name)
+    })
 }

@@ -194,12 +194,7 @@ impl<T> Row<T> {
 fn row_in<'a, T>(rows: &'a [Row<T>], name: &[u8], items: usize) -> Option<&'a Row<T>>
     ensures { MatchOption result (row_in rows.now name.now items ≡ None) (λ row. row_in rows.now name.now items ≡ Some row.now) }
 {
-    for row in rows {
-        if row.fits(name, items) {
-            return Some(row);
-        }
-    }
-    None
+    rows.iter().find(|row| row.fits(name, items))
 }
 
 // Its tag.

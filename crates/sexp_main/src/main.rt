@@ -13,7 +13,7 @@ use std::io::{self, BufWriter, Read, Write};
 // How much of the input is read.
 const INPUT: usize = 4096;
 
-// Writes the items of a list.
+// Writes the items of a list. No `Display`: an atom's bytes are written as they are, and need not be UTF-8.
 fn show<W: Write>(out: &mut W, items: Items<'_>) -> io::Result<()> {
     for (i, item) in items.enumerate() {
         if 0 < i {

@@ -1,8 +1,9 @@
 -- Look-ups by name: the rows of abbreviations, goals and variables hold names. Assumes nothing.
 use mathlib.Core.Path.{◌≡◌, refl, sym, ap, ◌∙◌, subst}
-use Prim.Native.Nat.{ℕ, suc, ◌+◌, ◌-◌, ◌*◌, ◌<◌, ◌≤◌}
+use Prim.Native.Nat.{ℕ, zero, suc, ◌+◌, ◌-◌, ◌*◌, ◌<◌, ◌≤◌}
 use mathlib.Core.Bool.{Bool, true, false}
-use Rattle.std.specs.Prelude.{Option, Some as some, None as nothing}
+use native.Mathlib.Numerals.{add-one}
+use Rattle.std.specs.Prelude.{Option, Some as some, None as nothing, MatchOption}
 use mathlib.Core.List.{List, [], ◌∷◌, map}
 use native.Mathlib.Omega.{arith}
 use lib.ListN.{length, get_or, take, drop, length-map, get_or-map}
@@ -198,31 +199,27 @@ module _ {goals text vars : List ℕ} {count i : ℕ} (s : SomeVars goals text v
       q ∙ ap (λ l. same (take (get_or vars (4 * i + 3) 0 - get_or vars (4 * i + 2) 0) (drop (get_or vars (4 * i + 2) 0) l)) name) (sym e)
       ∙ ap (λ l. same l name) (var_bytes h i s.1)
 
--- a look-up that stands at variable i: what is found from here on is what is found at all
-pub record Seeking (goals text vars name : List ℕ) (count i : ℕ) : Type 0 where
-  pub some : SomeVars goals text vars count
-  pub low : i ≤ count
-  pub same : (vs : List Var) → VarsHeld goals text vars count vs →
-      var_named vs name ≡ first (λ v. same v.name.bytes name) (drop i vs) i
+-- the first number that passes
+module _ {A : Type 0} (p : A → Bool) (xs : List A) (d : A) where
+  passed : (i : ℕ) → i ≤ length xs → ((k : ℕ) → k < i → p (get_or xs k d) ≡ false) → first p xs 0 ≡ first p (drop i xs) i
+  passed zero l past = refl
+  passed (suc i) l past =
+      passed i (omega arith) (λ k a. past k (omega arith)) ∙ first_later p xs i d (omega arith) (past i (omega arith)) ∙ ap (λ k. first p (drop k xs) k) (add-one i)
 
-pub seeking_begins : (goals text vars name : List ℕ) (count : ℕ) → SomeVars goals text vars count → Seeking goals text vars name count 0
-unfolding var_named
-seeking_begins goals text vars name count s = record { some = s; low = omega arith; same = λ vs h. refl }
+  first_found : {n : ℕ} → n ≡ length xs → (r : Option ℕ)
+      → MatchOption r ((k : ℕ) → 0 ≤ k → k < n → p (get_or xs k d) ≡ false)
+      (λ i. (0 ≤ i) × (i < n) × (p (get_or xs i d) ≡ true) × ((k : ℕ) → 0 ≤ k → k < i → p (get_or xs k d) ≡ false))
+      → r ≡ first p xs 0
+  first_found e nothing past = sym (passed (length xs) (omega arith) (λ k a. past k (omega arith) (omega (arith, e))) ∙ first_over p xs (length xs) (omega arith))
+  first_found e (some i) f = sym (passed i (omega (arith, e, f.1)) (λ k a. f.3 k (omega arith) a) ∙ first_here p xs i d (omega (arith, e, f.1)) f.2)
 
-module _ {goals text vars name : List ℕ} {count i : ℕ} (k : Seeking goals text vars name count i) where
-  module _ (l : i < count) {r : Bool} (f : (vs : List Var) → VarsHeld goals text vars count vs → r ≡ same (get_or vs i no_var).name.bytes name) where
-    pub seeking_here : r ≡ true → (vs : List Var) → VarsHeld goals text vars count vs → some i ≡ (var_named vs name)
-    seeking_here e vs h =
-        (sym (k.same vs h ∙ first_here (λ (v : Var). same v.name.bytes name) vs i no_var (omega (arith, h.stand.many)) (sym (f vs h) ∙ e)))
+-- the variable of that name: the first one whose name is this
+module _ {goals text vars : List ℕ} {count : ℕ} {vs : List Var} (h : VarsHeld goals text vars count vs) (name : List ℕ) where
+  abbrev pub Named : Bool → ℕ → Type 0
+  Named b i = same (get_or vs i no_var).name.bytes name ≡ b
 
-    pub seeking_on : r ≡ false → Seeking goals text vars name count (i + 1)
-    seeking_on e =
-        record {
-          some = k.some;
-          low = omega arith;
-          same = λ vs h. k.same vs h ∙ first_later (λ (v : Var). same v.name.bytes name) vs i no_var (omega (arith, h.stand.many)) (sym (f vs h) ∙ e);
-        }
-
-  pub seeking_over : count ≤ i → (vs : List Var) → VarsHeld goals text vars count vs → nothing ≡ (var_named vs name)
-  seeking_over l vs h =
-      (sym (k.same vs h ∙ first_over (λ (v : Var). same v.name.bytes name) vs i (omega (arith, h.stand.many))))
+  pub var_found : (r : Option ℕ)
+      → MatchOption r ((k : ℕ) → 0 ≤ k → k < count → Named false k) (λ i. (0 ≤ i) × (i < count) × Named true i × ((k : ℕ) → 0 ≤ k → k < i → Named false k))
+      → r ≡ var_named vs name
+  unfolding var_named
+  var_found = first_found (λ (v : Var). same v.name.bytes name) vs no_var (omega (arith, h.stand.many))

@@ -17,18 +17,18 @@ first_cell l i = ap (λ k. get_or l k 0) (let e : i ≡ i + 0 = omega arith in e
 three : (i : ℕ) → i + 3 ≡ suc (suc (suc i))
 three i = omega arith
 
-pub stores3 : (l : List ℕ) (i a b c : ℕ) → set (set (set l i a) (i + 1) b) (i + 2) c ≡ sets l i (a ∷ b ∷ c ∷ [])
-stores3 l i a b c = rw (add-one i, add-two i)
+pub stores3 : (l : List ℕ) (i a b c : ℕ) → set (sets l i (a ∷ b ∷ [])) (i + 2) c ≡ sets l i (a ∷ b ∷ c ∷ [])
+stores3 l i a b c = rw (add-two i)
 
-pub stores4 : (l : List ℕ) (i a b c d : ℕ) → set (set (set (set l i a) (i + 1) b) (i + 2) c) (i + 3) d ≡ sets l i (a ∷ b ∷ c ∷ d ∷ [])
-stores4 l i a b c d = rw (add-one i, add-two i, three i)
+pub stores4 : (l : List ℕ) (i a b c d : ℕ) → sets (set (set l i a) (i + 1) b) (i + 2) (c ∷ d ∷ []) ≡ sets l i (a ∷ b ∷ c ∷ d ∷ [])
+stores4 l i a b c d = rw (add-one i, add-two i)
 
 pub stores6 : (l : List ℕ) (i a b c d e f : ℕ) →
-    set (set (set (set (set (set l i a) (i + 1) b) (i + 2) c) (i + 3) d) (i + 4) e) (i + 5) f ≡ sets l i (a ∷ b ∷ c ∷ d ∷ e ∷ f ∷ [])
+    set (set (set (set (sets l i (a ∷ b ∷ [])) (i + 2) c) (i + 3) d) (i + 4) e) (i + 5) f ≡ sets l i (a ∷ b ∷ c ∷ d ∷ e ∷ f ∷ [])
 stores6 l i a b c d e f =
     let four : i + 4 ≡ suc (suc (suc (suc i))) = omega arith in
     let five : i + 5 ≡ suc (suc (suc (suc (suc i)))) = omega arith in
-    rw (add-one i, add-two i, three i, four, five)
+    rw (add-two i, three i, four, five)
 
 -- a part that is copied over whole
 pub stored_part : (l part vs : List ℕ) (at n : ℕ) → part ≡ vs → n ≡ length vs → at + length vs ≤ length l → put_mid at n l part ≡ sets l at vs

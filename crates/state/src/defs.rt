@@ -8,6 +8,7 @@ ghost use Rattle.state.specs.Held.{DefsHeld};
 ghost use Rattle.state.specs.Rows.{Fits4, SomeDefs, DefFound};
 
 use cells::Span;
+use kernel::atoms::put_name;
 use sexp::names::named;
 
 // The term that these bytes abbreviate.
@@ -25,7 +26,6 @@ pub fn put_def(defs: &mut [u32], d: usize, name: Span, term: usize)
     ensures { defs.new ≡ sets defs.old (3 * d) (name.from ∷ name.end ∷ term ∷ []) }
 {
     let at = 3 * d;
-    defs[at] = name.from as u32;
-    defs[at + 1] = name.end as u32;
+    put_name(defs, at, name);
     defs[at + 2] = term as u32;
 }

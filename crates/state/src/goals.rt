@@ -7,6 +7,7 @@ ghost use Rattle.state.specs.Held.{GoalsHeld};
 ghost use Rattle.state.specs.Rows.{cell, Fits4, SomeGoals, GoalAt, list_span};
 
 use cells::Span;
+use kernel::atoms::put_name;
 use sexp::names::named;
 
 // The goal with these bytes for a name.
@@ -60,8 +61,7 @@ pub fn put_goal(goals: &mut [u32], k: usize, name: Span, judgment: usize, from: 
     ensures { goals.new ≡ sets goals.old (6 * k) (name.from ∷ name.end ∷ judgment ∷ from ∷ hyps ∷ 0 ∷ []) }
 {
     let at = 6 * k;
-    goals[at] = name.from as u32;
-    goals[at + 1] = name.end as u32;
+    put_name(goals, at, name);
     goals[at + 2] = judgment as u32;
     goals[at + 3] = from as u32;
     goals[at + 4] = hyps as u32;

@@ -13,7 +13,7 @@ ghost use Rattle.state.specs.Rows.{cell, FactAt, hyps_span, premises_span, gener
 use crate::board::Board;
 use crate::sizes::Sizes;
 use cells::Span;
-use facts::{Fact, append, fact_at};
+use facts::{Fact, append, fact_at, judgment_of};
 use questions::Row;
 use terms::sets::{count, union_into, write_out};
 
@@ -24,12 +24,12 @@ pub fn is_fact(n: Sizes, i: usize) -> bool
     i < n.facts
 }
 
-// The judgment of fact i.
+// The judgment of fact i. This and `is_assumed` call those of `facts`: what is promised here is a cell of the row, for whoever speaks of the definition.
 pub fn judgment(facts: &[Fact], i: usize) -> usize
     requires { FactAt (fact_rows facts.now) i }
     ensures { result ≡ cell 6 (fact_rows facts.now) i 0 }
 {
-    facts[i].judgment as usize
+    judgment_of(facts, i) as usize
 }
 
 // Whether fact i is a hypothesis.
@@ -37,7 +37,7 @@ pub fn is_assumed(facts: &[Fact], i: usize) -> bool
     requires { FactAt (fact_rows facts.now) i }
     ensures { result ≡ not (eqb (cell 6 (fact_rows facts.now) i 1) 0) }
 {
-    facts[i].assumed != 0
+    facts::is_assumed(facts[i])
 }
 
 // Whether it is one without premises and generalised variables.

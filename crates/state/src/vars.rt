@@ -8,6 +8,7 @@ ghost use Rattle.state.specs.Held.{VarsHeld};
 ghost use Rattle.state.specs.Rows.{cell, Fits4, SomeVars, VarAt, text_cell};
 
 use cells::Span;
+use kernel::atoms::put_name;
 use questions::Text;
 use sexp::names::same;
 
@@ -52,13 +53,7 @@ impl VarTable<'_> {
         ensures { (vs : List Var) → VarsHeld self.now.goals.now self.now.text.now self.now.rows.now self.now.count vs →
             result ≡ var_named vs name.now }
     {
-        // a `for`: what would have to be proved of `find`'s closure is more than this loop's invariant
-        for i in 0..self.count {
-            if self.is_var(i, name) {
-                return Some(i);
-            }
-        }
-        None
+        (0..self.count).find(|i| self.is_var(*i, name))
     }
 }
 
@@ -78,6 +73,5 @@ pub fn put_var(vars: &mut [u32], v: usize, sort: usize, text: Option<Text>, name
     let at = 4 * v;
     vars[at] = sort as u32;
     vars[at + 1] = text_cell(text);
-    vars[at + 2] = name.from as u32;
-    vars[at + 3] = name.end as u32;
+    put_name(vars, at + 2, name);
 }

@@ -28,7 +28,7 @@ fn put_row(rows: &mut [u32], i: usize, f: Fact)
     ]);
 }
 
-// The footing of fact i.
+// The footing of fact i, copied as its row is.
 fn put_foot(feet: &mut [u64], i: usize, f: Fact)
     requires { 4 * i + 4 ≤ length feet.old }
     ensures { feet.new ≡ sets feet.old (4 * i) (fact_foot f) }
@@ -50,8 +50,8 @@ fn store_rows(facts: &[Fact], rows: &mut [u32], feet: &mut [u64])
     }
 }
 
-// The answer, the tables as a check leaves them, and the facts in the last two. It is public and promised (`Tabled`) for tables of any length; they are lent
-// on one by one to `schematic::check`, and are most of its length.
+// The answer, the tables as a check leaves them, and the facts in the last two. Nothing here calls it: it is public and promised (`Tabled`) for tables of any
+// length; they are lent on one by one to `schematic::check`, and are most of its length.
 pub fn check_rows(
     theory: &[u8],
     goals: &[u8],

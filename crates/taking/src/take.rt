@@ -76,13 +76,11 @@ pub fn take_goal(
         return Err(Question::GoalForm);
     };
     let mark = store.mark;
-    match goal_items(given, board, store, &cells[a..b]) {
-        Ok(()) => Ok(()),
-        Err(question) => {
-            store.forget(mark);
-            Err(question)
-        }
+    let taken = goal_items(given, board, store, &cells[a..b]);
+    if taken.is_err() {
+        store.forget(mark);
     }
+    taken
 }
 
 // The index that a form gives to the fact that it adds must be the next; a form that adds none gives none.
@@ -97,7 +95,7 @@ fn own_index(text: &[u8], cells: &[u32], tag: Tag, n: Sizes) -> Result<(), Quest
 }
 
 // The form of the proof that has these items: what it counts. Where it is refused, the terms that it made are still there. `ids` and `memo` are scratch:
-// zero before and after. They are no struct: see `induction::induct`.
+// zero before and after. A struct of both would be taken apart for `result`, which is lent `memo` alone, and where `step` and `induct` cut `ids`.
 fn form_items(
     given: &Given<'_>,
     board: &mut Board<'_>,
@@ -149,11 +147,9 @@ pub fn take_form(
         return Err(Question::ProofForm);
     };
     let mark = store.mark;
-    match form_items(given, board, store, &cells[a..b], ids, memo) {
-        Ok(counts) => Ok(counts),
-        Err(question) => {
-            store.forget(mark);
-            Err(question)
-        }
+    let taken = form_items(given, board, store, &cells[a..b], ids, memo);
+    if taken.is_err() {
+        store.forget(mark);
     }
+    taken
 }

@@ -1,5 +1,5 @@
 -- What the operations on words do to the sets that the words stand for. Assumes nothing.
-use mathlib.Core.Path.{◌≡◌, refl, sym, ap, ◌∙◌}
+use mathlib.Core.Path.{◌≡◌, refl, sym, ap, ◌∙◌, subst}
 use Rattle.std.proofs.Math.Bool.{or-false}
 use mathlib.Core.Bool.{Bool, true, false, ◌&&◌, not, ◌||◌}
 use mathlib.Core.List.{List, ◌∷◌, ◌++◌}
@@ -11,7 +11,8 @@ use native.Mathlib.Numerals.{add-one}
 use lib.Dec.{eqb, lit<}
 use lib.Pow.{shl_exact}
 use lib.Arith.{lt-one}
-use lib.ListN.{length, get_or, set, take, length-set, length-append, get_or-eq_default}
+use lib.ListN.{length, get_or, set, take, drop, length-drop, length-set, length-append, get_or-eq_default}
+use Rattle.std.proofs.Common.{drop-cons}
 use Rattle.std.specs.List.{sum_by}
 use Rattle.std.proofs.lemmas.List.Sums.{sum_by_more}
 use lib.Seq.{get_or-set_same, get_or-set_other, take-length}
@@ -168,6 +169,52 @@ module _ (a b : List ℕ) (i : ℕ) (ha : get_or a i 0 < 2 ^ 64) (hb : get_or b 
 
 pub lowest_none : (a b : List ℕ) (i : ℕ) → Clear a b (64 * i) → length a ≤ i → 0 ≡ least (64 * length a) (minus (holds a) (holds b))
 lowest_none a b i c h = sym (least_none (64 * length a) (minus (holds a) (holds b)) (λ w l. c w (omega arith)))
+
+-- two slices, word beside word: n words are passed, what is left of each is the rest of it
+pub record Beside (a b front back : List ℕ) (n : ℕ) : Type 0 where
+  pub clear : Clear a b (64 * n)
+  pub first : front ≡ drop n a
+  pub second : back ≡ drop n b
+
+module _ (a : List ℕ) (n : ℕ) {x : ℕ} {front : List ℕ} (e : drop n a ≡ x ∷ front) where
+  there : n < length a
+  there = let h = ap (λ (l : List ℕ). length l) e in let d = length-drop n a in omega arith
+
+  cells : get_or a n 0 ∷ drop (suc n) a ≡ x ∷ front
+  cells = sym (drop-cons a n 0 there) ∙ e
+
+  word : get_or a n 0 ≡ x
+  word = ap (λ (l : List ℕ). get_or l 0 0) cells
+
+  rest : front ≡ drop (suc n) a
+  rest = sym (ap (λ (l : List ℕ). drop 1 l) cells)
+
+module _ {a b f g f' g' : List ℕ} {n x y : ℕ} (w : Beside a b f g n) (p : f ≡ x ∷ f') (q : g ≡ y ∷ g') (fits : get_or b n 0 < 2 ^ 64) where
+  words : outside a b n fits ≡ bit_and x (18446744073709551615 - y)
+  words = λ i. bit_and (word a n (sym w.first ∙ p) i) (18446744073709551615 - word b n (sym w.second ∙ q) i)
+
+  pub beside_on : {m : ℕ} → bit_and x (18446744073709551615 - y) ≡ 0 → m ≡ n + 1 → Beside a b f' g' m
+  beside_on z e =
+      subst (Beside a b f' g') (sym e)
+      (record {
+        clear = clear_more a b n fits w.clear (words ∙ z);
+        first = rest a n (sym w.first ∙ p) ∙ ap (λ k. drop k a) (sym (add-one n));
+        second = rest b n (sym w.second ∙ q) ∙ ap (λ k. drop k b) (sym (add-one n));
+      })
+
+  pub beside_here : {i : ℕ} → get_or a n 0 < 2 ^ 64 → (bit_and x (18446744073709551615 - y) ≡ 0 → ⊥) → i ≡ n →
+      suc (i * 64 + count_trailing_zeros 64 (bit_and x (18446744073709551615 - y))) ≡ least (64 * length a) (minus (holds a) (holds b))
+  beside_here ha z e =
+      (λ j. suc (e j * 64 + count_trailing_zeros 64 (sym words j))) ∙ lowest_at a b n ha fits (there a n (sym w.first ∙ p)) w.clear (λ k. z (sym words ∙ k))
+
+module _ {a b f g : List ℕ} {n : ℕ} (w : Beside a b f g n) (e : length a ≡ length b) where
+  pub beside_same : length f ≡ length g
+  beside_same =
+      let p = ap (λ (l : List ℕ). length l) w.first in let q = ap (λ (l : List ℕ). length l) w.second in
+      let d = length-drop n a in let k = length-drop n b in omega arith
+
+  pub beside_over : length f ≡ 0 → 0 ≡ least (64 * length a) (minus (holds a) (holds b))
+  beside_over h = lowest_none a b n w.clear (let p = ap (λ (l : List ℕ). length l) w.first in let d = length-drop n a in omega arith)
 
 -- How many -------------------------------------------------------------------------------------------------------------------
 

@@ -98,7 +98,8 @@ impl Patterns<'_> {
         Some(place)
     }
 
-    // Whether patterns from `at` on meet the terms one by one.
+    // Whether patterns from `at` on meet the terms one by one. `match_term` has this walk too: one function for both would be a part of its recursion,
+    // whose measure is the term's number, and a slice of terms has none.
     fn match_terms(&self, terms: &Terms<'_>, bound: &mut [u32], at: usize, ids: &[u32]) -> bool
         requires { AllMatchable self.now.symbols.now self.now.words.now terms.now.index.now terms.now.words.now terms.now.mark bound.old at ids.now }
         ensures { TriedAll self.now.symbols.now self.now.words.now terms.now.index.now terms.now.words.now terms.now.mark bound.old bound.new at ids.now result }
@@ -133,8 +134,8 @@ impl Patterns<'_> {
         place
     }
 
-    // Patterns from `at` on, a rule's premises, against as many terms: whether all match; if not, the cells are as they were. Of the two,
-    // `matches` answers a place, and this whether.
+    // Patterns from `at` on, a rule's premises, against as many terms: whether all match; if not, the cells are as they were. This and
+    // `matches` differ in the walk and in what they answer: one function over a closure would have to say by the closure's clause what the cells hold.
     pub fn match_all(&self, terms: &Terms<'_>, bound: &mut [u32], at: usize, ids: &[u32]) -> bool
         requires { AllMatchable self.now.symbols.now self.now.words.now terms.now.index.now terms.now.words.now terms.now.mark bound.old at ids.now }
         ensures { MatchedAll self.now.symbols.now self.now.words.now terms.now.index.now terms.now.words.now terms.now.mark bound.old bound.new at ids.now result }
@@ -166,6 +167,7 @@ impl Patterns<'_> {
             });
         }
         let count = self.arity_of(head);
+        // as long as the longest node: there is no heap, and nothing of the core allocates
         let mut node = [0u32; NODE];
         node[0] = head as u32;
         let mut place = at + 1;

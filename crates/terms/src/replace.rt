@@ -44,6 +44,7 @@ fn rebuild(store: &mut Store<'_>, memo: &[u32], start: usize, end: usize) -> Res
     ensures same_tables { SameTables store.old store.new }
     ensures kept { let t = tree_at (made_of store.old) (rebuilt store.old.words.now memo.now start end) in KeptAs store.old store.new t (keep_tree t (made_of store.old)) result }
 {
+    // an array, as in `Patterns::build`
     let mut node = [0u32; NODE];
     gather(store.terms().words, memo, start, end, &mut node);
     store.keep(&node[..end - start])

@@ -45,13 +45,13 @@ pub fn minus_from(set: &mut [u64], other: &[u64])
     }
 }
 
-// The lowest of a that is not in b; none where all of a is in b. The answer wants the index, so that a zip is no plainer.
+// The lowest of a that is not in b; none where all of a is in b.
 pub fn lowest_outside(a: &[u64], b: &[u64]) -> Option<usize>
     requires { (length a.now ≡ length b.now) × (length a.now ≤ TERMWORDS) }
     ensures { counted_from_1 result ≡ least (64 * length a.now) (minus (holds a.now) (holds b.now)) }
 {
-    for (i, left) in a.iter().enumerate() {
-        let outside = left & !b[i];
+    for (i, (left, right)) in a.iter().zip(b).enumerate() {
+        let outside = left & !right;
         if outside != 0 {
             return Some(i * 64 + outside.trailing_zeros() as usize);
         }

@@ -34,7 +34,8 @@ impl Mark {
     pub const NONE: Mark = Mark { terms: 0, words: 0 };
 }
 
-// The tables as they are read.
+// The tables as they are read. That they are good is asked of each call (`GoodTerms`, `GoodStore`) and is no invariant of the two structs: `settle`
+// leaves tables that are not, and the tables are C's.
 #[derive(Clone, Copy)]
 pub struct Terms<'a> {
     pub index: &'a [u32],
@@ -256,8 +257,7 @@ impl Store<'_> {
         ensures back { Back self.old.index.now self.old.words.now self.new.index.now self.new.words.now old }
         ensures mark { self.new.mark ≡ old }
     {
-        // each round lowers the mark, which is no count
-        while old.terms < self.mark.terms {
+        for _ in old.terms..self.mark.terms {
             self.drop_last();
         }
     }

@@ -22,13 +22,14 @@ use terms::substitute::substitute;
 use terms::variables::variables;
 use unification::unify::{Scratch, unify};
 
-// The symbols by their numbers.
+// The symbols by their numbers: no enum, since a node holds them as numbers, which `show` would have to turn back.
 const A: u32 = 0;
 
 const B: u32 = 1;
 
 const F: u32 = 2;
 
+// By `map_err` at each call: the core writes no text, so that `Row` has no `Display`, which `?` into this error would ask.
 fn no_room(row: Row) -> Error {
     anyhow!("no room: {row:?}")
 }
@@ -82,7 +83,8 @@ fn bindings(alloc: Global, store: &mut Store<'_>, s: usize, t: usize) -> Result<
     Ok(Some(theta))
 }
 
-// Writes the term `id`. No `Display`, since its `fmt` could not ask that the tables are good.
+// Writes the term `id`. No `Display`: its `fmt` asks nothing, so that a struct of the tables and the term would have to carry by an invariant that
+// the tables are good and the term is there.
 fn show<W: Write>(out: &mut W, terms: &Terms<'_>, id: usize) -> io::Result<()>
     requires { GoodTerms terms.now × (id < terms.now.mark.terms) }
 {

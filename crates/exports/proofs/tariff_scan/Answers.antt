@@ -1,8 +1,6 @@
-use Rattle.exports.proofs.Turns.{forms_are, forms_before}
+use Rattle.std.proofs.Common.{rules, tests}
+use Rattle.exports.proofs.Turns.{scan_told}
 use Rattle.exports.proofs.tariff_scan.Goals as goal
 
-pub returns-in-Ok : goal.returns-in-Ok
-returns-in-Ok c = forms_are _ 0 _ c.in-Ok.ensures
-
-pub returns-in-Err : goal.returns-in-Err
-returns-in-Err c = forms_before _ 0 _ c.in-Err.ensures
+pub returns : goal.returns
+returns c = scan_told _ 0 c.read_all.result _ c.read_all.ensures c.unwrap_or_else.ensures (λ e k. search (rules, tests))

@@ -1,45 +1,47 @@
-use Rattle.std.proofs.Common.{arith}
-use Rattle.schematic.proofs.Turning.{ready, fitting, next, ran, boards_then, stores_then, scratch_then}
+use Rattle.std.specs.Prelude.{◌≡◌, Ok, Err}
+use Rattle.std.proofs.Common.{sym, ap, ◌∙◌, arith, rules}
+use Rattle.kernel.proofs.Handed.{handed}
+use Rattle.beginning.proofs.Turns.{boards_then, stores_then}
+use Rattle.schematic.proofs.Turning.{in_proof, ready, fitting, next, ran, stops, answered, scratch_then}
 use Rattle.schematic.proofs.prove.Goals as goal
 
-pub returns-in-Ok-None-clause-ran : goal.returns-in-Ok-None-clause-ran
-returns-in-Ok-None-clause-ran c =
-    let x = c.loop-step.invariant.0 in
-    let f = c.in-Ok-None.ensures.advanced in
-    let a = rw c.in-Ok-None.field-0-is at f in
-    let o = a (ready x) in
-    ran x c.next_form.new.board c.next_form.new.store _ o.0
+pub returns-in_err-next-clause-ran : goal.returns-in_err-next-clause-ran
+returns-in_err-next-clause-ran c =
+    let x = c.loop-next.invariant.0 in
+    let r : c.map_err.result ≡ in_proof c.loop-next.forms c.next_form.result = search rules in
+    rw (handed c.from_residual.result c.from_residual.ensures)
+    (ran x c.next_form.new.board c.next_form.new.store _
+    (stops x c.next_form.new.board c.next_form.new.store _ (c.next_form.ensures.advanced (ready x)) (sym r ∙ c.in_err-next.was)))
 
-pub returns-in-Err-clause-ran : goal.returns-in-Err-clause-ran
-returns-in-Err-clause-ran c =
-    let x = c.loop-step.invariant.0 in
-    let o = c.in-Err.ensures.advanced (ready x) in
-    rw (c.left_in.ensures, c.behind.ensures) (ran x c.next_form.new.board c.next_form.new.store _ o.0)
+pub returns-in_default-clause-ran : goal.returns-in_default-clause-ran
+returns-in_default-clause-ran c =
+    let x = c.loop-next.invariant.0 in
+    let r : c.map_err.result ≡ in_proof c.loop-next.forms c.next_form.result = search rules in
+    let o = answered x c.next_form.new.board c.next_form.new.store _ (c.next_form.ensures.advanced (ready x)) (sym r ∙ c.in_ok-next.was ∙ ap Ok c.in_default.is) in
+    ran x c.next_form.new.board c.next_form.new.store _ o.0
 
 pub add-requires : goal.add-requires
 add-requires c =
-    let x = c.loop-step.invariant.0 in
-    let f = c.in-Ok-Some.ensures.advanced in
-    let a = rw c.in-Ok-Some.field-0-is at f in
-    fitting x c.next_form.new.board c.next_form.new.store (a (ready x))
+    let x = c.loop-next.invariant.0 in
+    let r : c.map_err.result ≡ in_proof c.loop-next.forms c.next_form.result = search rules in
+    let e = answered x c.next_form.new.board c.next_form.new.store _ (c.next_form.ensures.advanced (ready x)) (sym r ∙ c.in_ok-next.was ∙ ap Ok c.in-Some.is) in
+    fitting x c.next_form.new.board c.next_form.new.store e
 
-pub loop-step-smaller : goal.loop-step-smaller
-loop-step-smaller c =
-    let x = c.loop-step.invariant.0 in
-    let f = c.in-Ok-Some.ensures.advanced in
-    let a = rw c.in-Ok-Some.field-0-is at f in
-    let e = a (ready x) in
+pub loop-next-smaller : goal.loop-next-smaller
+loop-next-smaller c =
+    let x = c.loop-next.invariant.0 in
+    let r : c.map_err.result ≡ in_proof c.loop-next.forms c.next_form.result = search rules in
+    let e = answered x c.next_form.new.board c.next_form.new.store _ (c.next_form.ensures.advanced (ready x)) (sym r ∙ c.in_ok-next.was ∙ ap Ok c.in-Some.is) in
     omega (arith, e.sooner, e.underway.high)
 
-pub loop-step-preserved : goal.loop-step-preserved
-loop-step-preserved c =
-    let x = c.loop-step.invariant.0 in
-    let f = c.in-Ok-Some.ensures.advanced in
-    let a = rw c.in-Ok-Some.field-0-is at f in
-    let e = a (ready x) in (
+pub loop-next-preserved : goal.loop-next-preserved
+loop-next-preserved c =
+    let x = c.loop-next.invariant.0 in
+    let r : c.map_err.result ≡ in_proof c.loop-next.forms c.next_form.result = search rules in
+    let e = answered x c.next_form.new.board c.next_form.new.store _ (c.next_form.ensures.advanced (ready x)) (sym r ∙ c.in_ok-next.was ∙ ap Ok c.in-Some.is) in (
       next x c.next_form.new.board c.next_form.new.store e c.add.ensures,
       c.next_form.ensures.idle_again,
-      boards_then c.args.board.now c.loop-step.board c.next_form.new.board c.loop-step.invariant.2 c.next_form.ensures.same_tables.0,
-      stores_then c.args.store.now c.loop-step.store c.next_form.new.store c.loop-step.invariant.3 c.next_form.ensures.same_tables.1,
-      scratch_then c.args.scratch.now c.loop-step.scratch c.next_form.new.scratch c.loop-step.invariant.4 c.next_form.ensures.same_tables.2,
+      boards_then c.args.board.now c.loop-next.board c.next_form.new.board c.loop-next.invariant.2 c.next_form.ensures.same_tables.0,
+      stores_then c.args.store.now c.loop-next.store c.next_form.new.store c.loop-next.invariant.3 c.next_form.ensures.same_tables.1,
+      scratch_then c.args.scratch.now c.loop-next.scratch c.next_form.new.scratch c.loop-next.invariant.4 c.next_form.ensures.same_tables.2,
     )

@@ -1,9 +1,12 @@
 use Rattle.state.specs.Records.{fact_rows}
-use mathlib.Core.Path.{refl, sym}
+use mathlib.Core.Path.{refl, sym, ◌∙◌}
 use lib.Seq.{length-take-le}
+use Rattle.std.proofs.lemmas.Result.{err_from_is_err_and}
 use Rattle.kernel.proofs.Handed.{handed}
 use Rattle.state.specs.Held.{records}
 use Rattle.forms.proofs.RuleHyps.{items_of, rule_zero, rule_stops, rule_unlisted, rule_asks, vars_inside, rule_added, rule_full}
+use Rattle.forms.proofs.Erring.{no_err, no_ok}
+use Rattle.forms.proofs.hypotheses.add_rule_hyp.Goals.{then-is_err, else-is_err}
 use Rattle.forms.proofs.hypotheses.add_rule_hyp.Goals as goal
 
 pub read_stated-requires-clause-out_value : goal.read_stated-requires-clause-out_value
@@ -29,18 +32,29 @@ pub slice_bounds-put_rule-end : goal.slice_bounds-put_rule-end
 slice_bounds-put_rule-end c = sym (length-take-le c.in-Some.many c.general_vars.new.general
     (vars_inside c.requires (c.in-Some.ensures (items_of c.requires) c.requires.many)))
 
-pub put_rule-requires : goal.put_rule-requires
-put_rule-requires c = (
+pub put_rule-put-requires : goal.put_rule-put-requires
+put_rule-put-requires c = (
   c.requires.footings,
   rule_asks c.requires c.min-from.ensures c.in_ok-stated.ensures.stated_as c.read_stated.auto.out refl,
 )
 
-pub returns-in-Ok-clause-assumed_as : goal.returns-in-Ok-clause-assumed_as
-returns-in-Ok-clause-assumed_as c = λ g. rule_added g c.min-from.ensures c.in_ok-stated.ensures.stated_as c.read_stated.auto.out
-    (c.in-Some.ensures (items_of g) g.many) refl (records (fact_rows c.put_rule.new.board.facts.now) g.footings c.put_rule.new.board.lists.now) c.put_rule.new.board.n
-    c.in-Ok.ensures.put_as
+pub returns-in_err-put-clause-assumed_as : goal.returns-in_err-put-clause-assumed_as
+returns-in_err-put-clause-assumed_as c = λ g.
+    let w = rw c.in_err-put.was at c.put_rule-put.ensures.put_as in
+    let p = err_from_is_err_and c.from_residual-in_err-put.result c.from_residual-in_err-put.ensures.1 in
+    elim c.if-is_err.branch [
+      | then-is_err v ↦ rw (v.board-is, p.1, p.2) (rule_full g c.min-from.ensures c.in_ok-stated.ensures.stated_as c.read_stated.auto.out
+          (c.in-Some.ensures (items_of g) g.many) refl (records (fact_rows c.put_rule-put.new.board.facts.now) g.footings c.put_rule-put.new.board.lists.now)
+          c.put_rule-put.new.board.n c.in_err-put.field-0.0 w v.clear-then-is_err.ensures)
+      | else-is_err v ↦ absurd (no_err c.in_err-put.was (sym c.is_err.ensures.value ∙ v.if-is_err.false))
+    ]
 
-pub returns-in-Err-clause-assumed_as : goal.returns-in-Err-clause-assumed_as
-returns-in-Err-clause-assumed_as c = λ g. rule_full g c.min-from.ensures c.in_ok-stated.ensures.stated_as c.read_stated.auto.out
-    (c.in-Some.ensures (items_of g) g.many) refl (records (fact_rows c.put_rule.new.board.facts.now) g.footings c.put_rule.new.board.lists.now) c.put_rule.new.board.n
-    c.in-Err.row c.in-Err.ensures.put_as c.clear-in-Err.ensures
+pub returns-clause-assumed_as : goal.returns-clause-assumed_as
+returns-clause-assumed_as c = λ g.
+    let w = rw c.in_ok-put.was at c.put_rule-put.ensures.put_as in
+    elim c.if-is_err.branch [
+      | then-is_err v ↦ absurd (no_ok c.in_ok-put.was (sym c.is_err.ensures.value ∙ v.if-is_err.true))
+      | else-is_err v ↦ rw v.board-is (rule_added g c.min-from.ensures c.in_ok-stated.ensures.stated_as c.read_stated.auto.out
+          (c.in-Some.ensures (items_of g) g.many) refl (records (fact_rows c.put_rule-put.new.board.facts.now) g.footings c.put_rule-put.new.board.lists.now)
+          c.put_rule-put.new.board.n w)
+    ]

@@ -1,54 +1,20 @@
-use mathlib.Core.Path.{sym, ◌∙◌}
-use Prim.Native.Nat.{◌+◌, ◌*◌}
-use native.Mathlib.Omega.{arith}
-use Rattle.sexp.specs.RowLaws.{name_order, name_within}
-use Rattle.sexp.proofs.Lookings.{looking_start, looking_row, looking_here, looking_on, looking_over}
+use Rattle.std.proofs.Common.{rules, tests, ◌≡◌, sym, ap, ◌∙◌, ◌<◌, true, false, ℕ, Bool, ◌+◌, ◌-◌, ◌*◌, arith, get_or, take, drop}
+use Rattle.std.proofs.lemmas.Iterator.{first_from_Range}
+use Rattle.rules.specs.Text.{same}
+use Rattle.rules.specs.Theory.{no_name}
+use Rattle.sexp.specs.FoundLaws.{first_is}
+use Rattle.sexp.specs.RowLaws.{name_bytes}
 use Rattle.sexp.proofs.names.named.Goals as goal
 
-pub loop-i-init : goal.loop-i-init
-loop-i-init c = looking_start _ _ _ _ _ _ (c.requires)
-
-pub overflow_mul-at : goal.overflow_mul-at
-overflow_mul-at c = omega (arith, (looking_row c.loop-i.invariant c.loop-i-test.true).inside, c.well_formed)
-
-pub overflow_add-at : goal.overflow_add-at
-overflow_add-at c = omega (arith, (looking_row c.loop-i.invariant c.loop-i-test.true).inside, c.well_formed)
-
-pub offset_bounds-table-at : goal.offset_bounds-table-at
-offset_bounds-table-at c = omega (arith, (looking_row c.loop-i.invariant c.loop-i-test.true).inside, c.well_formed)
-
-pub bounds-table-at : goal.bounds-table-at
-bounds-table-at c = omega (arith, (looking_row c.loop-i.invariant c.loop-i-test.true).inside)
-
-pub overflow_cast-start : goal.overflow_cast-start
-overflow_cast-start c = omega (arith, c.shared_slice_known-in-loop-i-1.given (c.args.width * c.loop-i.i + c.args.place))
-
-pub overflow_add-end : goal.overflow_add-end
-overflow_add-end c = omega (arith, (looking_row c.loop-i.invariant c.loop-i-test.true).inside, c.well_formed)
-
-pub offset_bounds-table-at-in-loop-i : goal.offset_bounds-table-at-in-loop-i
-offset_bounds-table-at-in-loop-i c = omega (arith, (looking_row c.loop-i.invariant c.loop-i-test.true).inside, c.well_formed)
-
-pub bounds-table-at-in-loop-i : goal.bounds-table-at-in-loop-i
-bounds-table-at-in-loop-i c = omega (arith, (looking_row c.loop-i.invariant c.loop-i-test.true).inside)
-
-pub overflow_cast-end : goal.overflow_cast-end
-overflow_cast-end c = omega (arith, c.shared_slice_known-in-loop-i-2-1.given (c.args.width * c.loop-i.i + c.args.place + 1))
-
-pub slice_bounds-same-count : goal.slice_bounds-same-count
-slice_bounds-same-count c = name_order (looking_row c.loop-i.invariant c.loop-i-test.true)
-
-pub slice_bounds-same-start : goal.slice_bounds-same-start
-slice_bounds-same-start c = name_order (looking_row c.loop-i.invariant c.loop-i-test.true)
-
-pub slice_bounds-same-end : goal.slice_bounds-same-end
-slice_bounds-same-end c = name_within (looking_row c.loop-i.invariant c.loop-i-test.true)
-
-pub returns-then-same : goal.returns-then-same
-returns-then-same c = λ ns r. looking_here c.loop-i.invariant c.loop-i-test.true ns r (sym c.same.ensures ∙ c.if-same.true)
-
-pub loop-i-preserved : goal.loop-i-preserved
-loop-i-preserved c = looking_on c.loop-i.invariant c.loop-i-test.true (sym c.same.ensures ∙ c.if-same.false)
-
 pub returns : goal.returns
-returns c = λ ns r. looking_over c.loop-i.invariant c.loop-i-test.false ns r
+returns c = λ ns r.
+    let table = c.args.table.now in
+    let name = c.args.name.now in
+    let at : ℕ → ℕ = λ k. c.args.width * k + c.args.place in
+    let test : ℕ → Bool = λ k. same (take (get_or table (at k + 1) 0 - get_or table (at k) 0) (drop (get_or table (at k) 0) c.args.text.now)) name in
+    let is : (k : ℕ) → k < c.args.count → test k ≡ same (get_or ns k no_name).bytes name
+    = λ k l. ap (λ b. same b name) (name_bytes (r.row k (omega (arith, l, r.many)))) in
+    first_is (λ n. same n.bytes name) ns no_name 0 r.many (λ k. test k ≡ true) (λ k. test k ≡ false)
+    (λ k l e. sym (is k l) ∙ e) (λ k l e. sym (is k l) ∙ e) c.find.result
+    (first_from_Range _ c.find.new.self _ c.find.result (λ k. test k ≡ true) (λ k. test k ≡ false) c.find.ensures.ran
+    (λ x q k. search (rules, tests)) (λ x q k. search (rules, tests)))

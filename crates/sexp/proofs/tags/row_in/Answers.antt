@@ -1,14 +1,13 @@
-use Rattle.std.proofs.Common.{sym, ◌∙◌, arith}
-use Rattle.sexp.proofs.TagLaws.{found, next, none_found}
+use Rattle.std.proofs.Common.{rules, tests}
+use Rattle.std.proofs.lemmas.Iterator.{YieldsList-from_slice}
+use Rattle.std.proofs.lemmas.Iterator.Search.{find_from_yields_List}
+use Rattle.rules.specs.Tags.{fits}
+use Rattle.sexp.specs.TagTable.{row_of}
+use Rattle.sexp.proofs.TagLaws.{row_found}
 use Rattle.sexp.proofs.tags.row_in.Goals as goal
 
-pub returns-then-fits : goal.returns-then-fits
-returns-then-fits g c =
-    found c.args.name.now c.args.items c.args.rows.now c.loop-row.row-index c.loop-row.invariant c.row-item.result (omega arith) c.row-item.is (sym c.fits.ensures ∙ c.if-fits.true)
-
-pub loop-row-preserved : goal.loop-row-preserved
-loop-row-preserved g c =
-    next c.args.name.now c.args.items c.args.rows.now c.loop-row.row-index c.loop-row.invariant c.row-item.result (omega arith) c.row-item.is (sym c.fits.ensures ∙ c.if-fits.false)
-
 pub returns : goal.returns
-returns g c = none_found c.args.name.now c.args.items c.args.rows.now c.loop-row.row-index c.loop-row.invariant (omega arith) (omega arith)
+returns g c =
+    row_found c.args.name.now c.args.items c.args.rows.now c.find.result
+    (find_from_yields_List (λ r. fits (row_of r) c.args.name.now c.args.items) c.find.new.self _ c.find.result c.find.ensures.ran (YieldsList-from_slice c.args.rows.now c.iter.ensures.rest)
+    (λ x b q k. search (rules, tests)))

@@ -2,7 +2,7 @@ use mathlib.Core.Path.{refl, ap}
 use mathlib.Core.Bool.{not}
 use Rattle.inversion.proofs.InvertCaseVars.{case_never, case_fits, case_long, case_words, case_suits, case_unsuited, case_short, case_taken, case_new}
 use Rattle.inversion.proofs.inverting.Inverting.case_vars.Goals as goal
-use Rattle.inversion.proofs.inverting.Inverting.case_vars.Goals.{then-not-suits-via-then-not-suits, then-not-suits-via-else-not-suits+then-not-all_new}
+use Rattle.inversion.proofs.inverting.Inverting.case_vars.Goals.{then-not-suits-via-then-not-suits, then-not-suits-via-else-not-suits+then-not-none_in}
 
 pub returns-in_err-case : goal.returns-in_err-case
 returns-in_err-case c = λ g. case_never g (λ w M. (c.in_err-case.ensures w).0 M)
@@ -21,13 +21,13 @@ returns-then-not-suits c = λ g. (
   refl,
   elim c.then-not-suits.branch [
     | then-not-suits-via-then-not-suits w ↦ case_unsuited g c.in_ok-case.ensures c.suits.ensures c.args.taken.now (ap not w.if-not-suits.true)
-    | then-not-suits-via-else-not-suits+then-not-all_new w ↦ case_taken g c.in_ok-case.ensures c.suits.ensures
-        (ap not w.if-not-suits.false) c.args.taken.now w.all_new.ensures (ap not w.if-not-all_new.true)
+    | then-not-suits-via-else-not-suits+then-not-none_in w ↦ case_taken g c.in_ok-case.ensures c.suits.ensures
+        (ap not w.if-not-suits.false) c.args.taken.now w.none_in.ensures (ap not w.if-not-none_in.true)
   ],
 )
 
-pub all_new-requires : goal.all_new-requires
-all_new-requires c = case_words c.requires.0 c.in_ok-case.ensures c.args.taken.now c.requires.1
+pub none_in-requires : goal.none_in-requires
+none_in-requires c = case_words c.requires.0 c.in_ok-case.ensures c.args.taken.now c.requires.1
 
 pub insert_all-requires : goal.insert_all-requires
 insert_all-requires c = case_words c.requires.0 c.in_ok-case.ensures c.args.taken.now c.requires.1
@@ -38,4 +38,4 @@ write-requires c = case_short c.requires.0 c.in_ok-case.ensures c.suits.ensures
 
 pub returns : goal.returns
 returns c = λ g. case_new g c.in_ok-case.ensures c.suits.ensures
-    (ap not c.if-not-suits.false) c.args.taken.now c.all_new.ensures c.args.list.now (ap not c.if-not-all_new.false) c.insert_all.ensures c.write.ensures
+    (ap not c.if-not-suits.false) c.args.taken.now c.none_in.ensures c.args.list.now (ap not c.if-not-none_in.false) c.insert_all.ensures c.write.ensures

@@ -1,4 +1,4 @@
-use Rattle.reading.proofs.TermHeads.{symbols_named, judgment_nameless, judgment_missing, judgment_opened}
+use Rattle.reading.proofs.TermHeads.{symbols_named, judgment_nameless, judgment_told}
 use Rattle.reading.proofs.reader.Reader.predicate_first.Goals as goal
 
 pub head-requires : goal.head-requires
@@ -10,8 +10,5 @@ returns-in_default c = λ g. judgment_nameless g (c.in_default.ensures g.xs g.ho
 pub predicate_named-requires : goal.predicate_named-requires
 predicate_named-requires c = rw c.symbol_table.ensures (symbols_named c.requires)
 
-pub returns-in_default-predicate_named : goal.returns-in_default-predicate_named
-returns-in_default-predicate_named c = λ g. judgment_missing g (c.in-Some.ensures g.xs g.holds).1 (rw c.symbol_table.ensures at c.predicate_named.ensures) c.in_default-predicate_named.is
-
 pub returns : goal.returns
-returns c = λ g. judgment_opened g (c.in-Some.ensures g.xs g.holds).1 (rw c.symbol_table.ensures at c.predicate_named.ensures) c.in-Some-predicate_named.is
+returns c = λ g. judgment_told g (c.in-Some.ensures g.xs g.holds).1 (rw c.symbol_table.ensures at c.predicate_named.ensures) c.ok_or.ensures.value
