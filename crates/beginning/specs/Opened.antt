@@ -20,7 +20,6 @@ no_board =
 pub record Lending (B : Board) : Type 0 where
   pub exact : ExactBoard B
   pub facts : length B.facts ≡ 6 * FACTS
-  pub footings : length B.footings ≡ 4 * FACTS
 
 -- with those of the theory, and cells of zeros for the forms
 pub record Opening (T : TheoryLists) (B : Board) (cells : List ℕ) : Type 0 where

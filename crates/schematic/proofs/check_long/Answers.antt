@@ -1,5 +1,5 @@
 use Rattle.std.proofs.Common.{rules, refl, sym, ap, ◌++◌, arith}
-use Rattle.state.specs.Records.{length_fact_rows, length_fact_feet}
+use Rattle.state.specs.Records.{length_fact_rows}
 use Rattle.running.specs.Lent.{working}
 use Rattle.schematic.proofs.Whole.{filled_as}
 use Rattle.schematic.proofs.check_long.Goals as goal
@@ -33,7 +33,6 @@ check_exact-requires-clause-opening c =
           lists = c.split_at_mut-lists.ensures.front_len;
         };
         facts = omega (arith, length_fact_rows c.split_at_mut-facts.result.0.now, c.split_at_mut-facts.ensures.front_len);
-        footings = omega (arith, length_fact_feet c.split_at_mut-facts.result.0.now, c.split_at_mut-facts.ensures.front_len);
       };
       cells_zero = refl;
     }
