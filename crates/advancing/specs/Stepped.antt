@@ -13,7 +13,7 @@ use Rattle.state.specs.Stands.{tables_of}
 use Rattle.counts.specs.declared.Counts.{Counts}
 use Rattle.counts.specs.Counted.{counts_of}
 use Rattle.counts.specs.Sum.{sum}
-use Rattle.induction.specs.Inducing.{IDS}
+use Rattle.referring.specs.Ids.{IDS}
 use Rattle.forms.specs.Boards.{theory_of}
 use Rattle.running.specs.declared.stopped.Stopped.{Stopped}
 use Rattle.running.specs.Course.{Underway, Over}

@@ -15,7 +15,10 @@ use Rattle.questions.specs.declared.Text.{Text}
 use Rattle.questions.specs.declared.Text.TheVariants as text
 use Rattle.running.specs.declared.stopped.Stopped.{Stopped}
 use Rattle.questions.specs.Numbers.{text_number}
-use Rattle.beginning.specs.Asking.{left_in, Plain, LeftIn}
+use Rattle.questions.specs.declared.Question.{Question}
+use Rattle.questions.specs.declared.Refused.{Refused}
+use Rattle.std.specs.Prelude.{Result, Ok, Err}
+use Rattle.beginning.specs.Asking.{left_in, PutToEach, Plain, LeftIn, AskedAs}
 
 -- The first that fails ---------------------------------------------------------------------------------------------------------------
 
@@ -49,6 +52,12 @@ module _ (p : List ℕ → Bool) (t g f : List ℕ) where
   unfolding first_failing
   none_fails e = all_true (p t) (p g) (p f) e
 
+-- the question is left in the text with that number
+pub put_left : (x : Text) (q : Question) {n : ℕ} {r : Refused} {s : Stopped} → text_number x ≡ n → r ≡ record { question = q; form = 0 } →
+    s ≡ record { text = x; refused = r } → PutToEach q n (Err s)
+put_left x q {n} h e f =
+    subst (λ (s : Stopped). (text_number s.text ≡ n) × (s ≡ left_in s.text q)) (sym (f ∙ ap (λ (r : Refused). record { text = x; refused = r }) e)) (h, refl)
+
 -- Questions 2 and 3 ------------------------------------------------------------------------------------------------------------------
 
 short_text : (text : List ℕ) → short text ≡ true → length text ≤ LENGTH
@@ -79,3 +88,9 @@ module _ {t g f : List ℕ} where
           short_proof = short_text f s.2;
           is = ap (readable t g f) a ∙ ap (fitting t g f) e;
         }
+
+-- what question 3 answers, asked of each text
+pub asked : (t g f : List ℕ) → 0 ≡ first_failing short t g f → (r : Result (Unit {0}) Stopped) → PutToEach question.Bytes (first_failing plain t g f) r →
+    AskedAs t g f r
+asked t g f e (Ok u) h = none_left e h
+asked t g f e (Err s) h = left_odd e s.text h.0 h.1

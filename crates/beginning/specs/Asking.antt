@@ -1,5 +1,5 @@
 -- Questions 2 and 3 in the definition's words: one is left in some text, or the theory is judged. Assumes nothing.
-use Rattle.std.specs.Prelude.{◌≡◌, List, ℕ, ◌≤◌, length, Option, Some as some, None as nothing, Result, Ok, Err}
+use Rattle.std.specs.Prelude.{◌≡◌, List, ℕ, ◌≤◌, length, Result, Ok, Err}
 use Rattle.rules.specs.Limits.{LENGTH}
 use Rattle.rules.specs.Theory.{no_theory}
 use Rattle.rules.specs.State.{begin}
@@ -10,14 +10,14 @@ use Rattle.questions.specs.Numbers.{text_number, number_of, detail_of}
 use Rattle.kernel.specs.Parsed.{verdict}
 use Rattle.running.specs.declared.stopped.Stopped.{Stopped}
 
--- the number of a text, 0 for none
-abbrev pub number_in : Option Text → ℕ
-number_in (some t) = text_number t
-number_in nothing = 0
-
 -- a question that is left before the first form of a text
 abbrev pub left_in : Text → Question → Stopped
 left_in t q = record { text = t; refused = record { question = q; form = 0 } }
+
+-- a question put to each text in turn, by the number of the first that fails, 0 for none
+abbrev pub PutToEach : Question → ℕ → Result (Unit {0}) Stopped → Type 0
+PutToEach q n (Ok u) = 0 ≡ n
+PutToEach q n (Err s) = (text_number s.text ≡ n) × (s ≡ left_in s.text q)
 
 -- none is left: no text is too long, and what comes behind these questions decides
 pub record Plain (theory goals proof : List ℕ) : Type 0 where

@@ -20,7 +20,7 @@ use state::board::{Board, Given};
 use state::sizes::Sizes;
 use terms::store::Store;
 
-// What the forms of a text are given.
+// What the forms of a text are given. Field by field: what `Tables` lends to be filled is lent anew here, to be read; a method for a part of it would say no less.
 pub fn given_of<'a>(texts: &'a Texts<'_>, text: &'a [u8], tables: &'a Tables<'_>) -> Given<'a>
     ensures { result ≡ given_of texts.now.theory texts.now.goals text.entry tables.now }
 {

@@ -18,7 +18,7 @@ use state::board::Board;
 use state::sizes::Sizes;
 use terms::store::{Mark, Store};
 
-// As long as this, or longer; and so many records of facts.
+// The least lengths of the tables, in the order of `named` (specs/Lengths), by which `fits` promises; and of the records of facts.
 const NAMED: [usize; 14] = [
     lengths::SORTS,
     lengths::SYMBOLS,

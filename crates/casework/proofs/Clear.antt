@@ -7,9 +7,9 @@ use Prim.Native.Nat.{ℕ, suc, ◌+◌, ◌-◌, ◌<◌, ◌≤◌}
 use native.Mathlib.Omega.{arith}
 use lib.Dec.{eqb}
 use Rattle.std.proofs.lemmas.List.{nil_from_length}
-use lib.ListN.{length, get_or, replicate, length-replicate}
+use lib.ListN.{length, get_or, replicate}
 use borrow.Author.Tests.{eqb-true, eqb-false}
-use Rattle.rules.specs.Limits.{VARIABLES, VARIABLEWORDS, TERMWORDS}
+use Rattle.rules.specs.Limits.{VARIABLES, VARIABLEWORDS}
 use Rattle.rules.specs.Out.{refuse, ask}
 use Rattle.rules.specs.Find.{Set, has, all, union}
 use Rattle.rules.specs.Tree.{Tree, var, variables}
@@ -20,21 +20,19 @@ use Rattle.rules.specs.Invert.{clear, without, context_fact}
 use Rattle.rules.specs.Laws.Theory.{all_at}
 use Rattle.rules.specs.Laws.Store.{then_ok, then_refuse}
 use Rattle.terms.specs.declared.store.Mark.{Mark}
-use Rattle.terms.specs.Table.{made, Good}
+use Rattle.terms.specs.Table.{made}
 use Rattle.terms.specs.Sets.{holds}
-use Rattle.terms.specs.Collect.{Seen}
 use Rattle.terms.specs.Subst.{replacement}
 use Rattle.terms.specs.Theta.{bindings, Theta}
 use Rattle.terms.specs.On.{Stopped, pure_stopped}
 use Rattle.terms.specs.Laws.Sets.{holds_zero}
-use Rattle.terms.specs.Laws.Seen.{seen_none}
 use Rattle.terms.specs.Laws.Theta.{binding, bindings_zero, bindings_some, along_is}
 use Rattle.state.specs.declared.sizes.Sizes.{Sizes}
 use Rattle.state.specs.Entries.{part}
 use Rattle.state.specs.Rows.{general_span}
 use Rattle.referring.specs.Recall.{fact_of, Recalls}
 use Rattle.referring.specs.Referral.{Gathered}
-use Rattle.referring.specs.Derived.{cell_vars, ReadableCells}
+use Rattle.referring.specs.Derived.{cell_vars}
 use Rattle.terms.specs.Table.{Below}
 use Rattle.casework.specs.Context.{UnboundAs, ContextGiven, under}
 use Rattle.casework.specs.Laws.Rows.{row, general_is}
@@ -73,17 +71,7 @@ clear_cells M vs (c ∷ cs) a = go (eqb c 0) (clear_cells M vs cs (suc a))
         ap (λ (x : Bool). elim (all (λ (v : ℕ). not (variables (get_or M (c - 1) (var 0)) v)) vs) as (λ (z : Bool). Bool) [ true ↦ x | false ↦ false ]) e
         ∙ all_or (variables (get_or M (c - 1) (var 0))) (cell_vars M cs) vs
 
--- what `visit_cells` asks
-pub clear_asks : {I W : List ℕ} {m : Mark} {map seen inside : List ℕ} → Good I W m → Theta m map → seen ≡ replicate TERMWORDS 0 → inside ≡ replicate VARIABLEWORDS 0 →
-    ReadableCells I W m map seen inside × Seen I W m (holds seen) (holds inside)
-clear_asks {I} {W} {m} {map} {seen} {inside} g c e f =
-    let a : length seen ≡ TERMWORDS = ap length e ∙ length-replicate {A = ℕ} TERMWORDS 0 in
-    let b : length inside ≡ VARIABLEWORDS = ap length f ∙ length-replicate {A = ℕ} VARIABLEWORDS 0 in (
-      record { good = g; within = c.bound; wide = a; broad = b },
-      seen_none I W m (holds inside) seen (e ∙ ap (λ (k : ℕ). replicate k 0) (sym a)),
-    )
-
--- and what it leaves
+-- what `visit_cells` leaves
 pub clear_set : {I W : List ℕ} {m : Mark} (map : List ℕ) {inside : List ℕ} (inside' : List ℕ) {seen' : Set} → inside ≡ replicate VARIABLEWORDS 0 →
     Gathered I W m (cell_vars (made I W m) map) (holds inside) seen' (holds inside') → holds inside' ≡ cell_vars (made I W m) map
 clear_set {I} {W} {m} map inside' e v = v.set ∙ ap (λ (s : Set). union s (cell_vars (made I W m) map)) (ap holds e ∙ holds_zero VARIABLEWORDS)

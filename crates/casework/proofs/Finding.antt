@@ -1,10 +1,10 @@
 -- The loops over the cases of `invert`: the case of a name, and all of them, one a name. Assumes nothing.
 use mathlib.Core.Path.{◌≡◌, refl, sym, ap, ◌∙◌, subst}
 use mathlib.Core.Bool.{Bool, true, false, not}
-use Rattle.std.specs.Prelude.{Option, Some as some, None as nothing}
+use Rattle.std.specs.Prelude.{⊤, Option, Some as some, None as nothing}
 use mathlib.Core.List.{List, [], ◌∷◌, ◌++◌, append_assoc}
 use Rattle.std.specs.Option.{is_some as is_there}
-use Prim.Native.Nat.{ℕ, zero, suc, ◌+◌, ◌-◌, ◌<◌, ◌≤◌}
+use Prim.Native.Nat.{ℕ, zero, suc, ◌+◌, ◌<◌, ◌≤◌}
 use native.Mathlib.Omega.{arith}
 use native.Mathlib.Numerals.{add-one}
 use native.Mathlib.Decide.{dec_lt}
@@ -13,7 +13,7 @@ use lib.Seq.{drop-cons, get_or-append-add, take-append_seam}
 use denote.Ref.{Bor}
 use Rattle.rules.specs.Text.{same}
 use Rattle.rules.specs.Out.{ok, refuse, ask}
-use Rattle.rules.specs.Sexp.{Sexp, Sexps, atom, list, nil, cons, count, item, rest}
+use Rattle.rules.specs.Sexp.{Sexp, Sexps, atom, nil, cons, count, item, rest}
 use Rattle.rules.specs.Find.{any}
 use Rattle.rules.specs.Store.{Made}
 use Rattle.rules.specs.State.{State}
@@ -25,23 +25,30 @@ use Rattle.sexp.specs.Spelt.{Spells}
 use Rattle.sexp.specs.Items.{Holds, item_at, behind}
 use Rattle.sexp.specs.Never.{never}
 use Rattle.casework.specs.Laws.CaseItems.{list_items, not_both}
-use Rattle.sexp.specs.WalkLaws.{ListIs, Walk, walk_start, walk_over, walk_rest}
+use Rattle.sexp.specs.Each.{HeadIs, ListOf, Over, Step, Walks, over, here as step, Here as Stepped}
+use Rattle.sexp.specs.declared.items.Each.{Each}
+use Rattle.std.specs.Option.{MatchOption}
+use Rattle.std.specs.List.{FoldsTo}
+use Rattle.std.specs.Fn.{CalledAt}
+use denote.Param.Members.{Mut}
+use Rattle.std.specs.Iterator.{Yields, CallableAtEachTurn}
+use Rattle.std.proofs.lemmas.Fn.{serves_by}
+use Rattle.sexp.specs.WalkLaws.{Walk, walk_start, walk_over, walk_rest}
 use Rattle.reading.specs.Laws.Walks.{Here, here, go_on}
 use Rattle.casework.specs.Cases.{no_case, CaseItem, CaseFirst, CasesIn, CaseHere, CaseFound, Kept, Naming, CasesAre}
 use Rattle.casework.specs.declared.distinct.NameTree.{NameTree}
 
 -- Its name -----------------------------------------------------------------------------------------------------------------------------------
 
-module _ {text cells : List ℕ} (g : CaseFirst text cells) {a b : ℕ} (l : ListIs text cells g.x a b) where
+module _ {text cells : List ℕ} (g : CaseFirst text cells) {part : List ℕ} (l : ListOf text cells g.x part) where
   inner_name : item l.items 0 ≡ atom g.case.place g.c.name
   inner_name = ap (λ (z : Sexps). item z 0) (list_items l.items g.case.inner (sym l.is ∙ g.case.is)) ∙ g.case.named
 
-  -- it is not a list
-  pub head_never : {A : Type 0} → ((xs : Sexps) × (item l.items 0 ≡ list xs)) → A
-  head_never h = not_both (item l.items 0) h.0 g.case.place g.c.name h.1 inner_name
-
-  pub head_is : {own : List ℕ} → ((p : ℕ) × (item l.items 0 ≡ atom p own)) → own ≡ g.c.name
-  head_is {own} h = let z : atom h.0 own ≡ atom g.case.place g.c.name = sym h.1 ∙ inner_name in cc
+  -- an atom with the name, and no list
+  pub named_same : (name : List ℕ) {b : Bool} (o : Option (Bor (List ℕ))) → HeadIs (item l.items 0) o → MatchOption o (b ≡ false) (λ own. b ≡ same own.now name) → b ≡ same g.c.name name
+  named_same name nothing h e = not_both (item l.items 0) h.0 g.case.place g.c.name h.1 inner_name
+  named_same name (some own) h e =
+      e ∙ ap (λ (bs : List ℕ). same bs name) (let z : atom h.0 own.now ≡ atom g.case.place g.c.name = sym h.1 ∙ inner_name in cc)
 
 -- The case of a name -------------------------------------------------------------------------------------------------------------------------
 
@@ -74,71 +81,103 @@ cons_more nil k x ys e = never cc
 cons_more (cons z zs) zero x ys e = omega arith
 cons_more (cons z zs) (suc k) x ys e = let l = cons_more zs k x ys e in omega arith
 
--- the loop: what is left decides
-pub record Seeking {text cells : List ℕ} (g : CasesIn text cells) (name : List ℕ) (at : ℕ) : Type 0 where
+-- where a walk over the cases stands
+pub record Stands {text cells : List ℕ} (g : CasesIn text cells) (s : Each) : Type 0 where
+  pub cells_same : s.cells.now ≡ cells
   pub k : ℕ
-  pub walk : Walk text cells at (rest g.xs k)
+  pub walk : Walk text cells s.at (rest g.xs k)
   pub few : k ≤ count g.xs
-  pub whole : case_named g.cs name ≡ case_named (drop k g.cs) name
 
-module _ {text cells : List ℕ} (g : CasesIn text cells) (name : List ℕ) where
-  pub seeking_start : Seeking g name 0
-  seeking_start = record {
+module _ {text cells : List ℕ} (g : CasesIn text cells) where
+  abbrev pub stands_start : {s : Each} → s.cells.now ≡ cells → s.at ≡ 0 → Stands g s
+  stands_start {s} c a = record {
+    cells_same = c;
     k = 0;
-    walk = subst (λ (z : Sexps). Walk text cells 0 z) (sym (rest_none g.xs)) (walk_start g.holds);
+    walk = subst (λ (n : ℕ). Walk text cells n (rest g.xs 0)) (sym a) (subst (λ (z : Sexps). Walk text cells 0 z) (sym (rest_none g.xs)) (walk_start g.holds));
     few = omega arith;
-    whole = refl;
   }
 
-  module _ {at : ℕ} (s : Seeking g name at) where
-    pub seeking_over : length cells ≤ at → case_named g.cs name ≡ nothing
-    seeking_over l = s.whole ∙ named_over g.cs name s.k (let n = count_rest g.xs s.k s.few (walk_over s.walk l) in omega (arith, g.many, n))
+  module _ {s : Each} (h : Stands g s) where
+    stands_over : {t : Each} (name : List ℕ) → Over s t → case_named (drop h.k g.cs) name ≡ nothing
+    stands_over name o = named_over g.cs name h.k (let n = count_rest g.xs h.k h.few (walk_over h.walk (over h.cells_same o)) in omega (arith, g.many, n))
 
-    module _ (l : at < length cells) where
-      pub left_now : s.k < count g.xs
-      left_now = let h = here s.walk l in cons_more g.xs s.k h.x h.ys h.is
+    module _ {x : Bor (List ℕ)} {t : Each} (st : Step s x t) where
+      stepped : Stepped cells x.now s.at t
+      stepped = step h.cells_same st
 
-      pub item_walk : Walk text cells at (cons (item g.xs s.k) (rest g.xs (suc s.k)))
-      item_walk = subst (λ (z : Sexps). Walk text cells at z) (rest_item g.xs s.k left_now) s.walk
+      left_now : h.k < count g.xs
+      left_now = let w = here h.walk stepped.inside in cons_more g.xs h.k w.x w.ys w.is
 
-      abbrev pub seeking_first : CaseFirst text (take (length cells - at) (drop at cells))
-      seeking_first = record {
+      item_walk : Walk text cells s.at (cons (item g.xs h.k) (rest g.xs (suc h.k)))
+      item_walk = subst (λ (z : Sexps). Walk text cells s.at z) (rest_item g.xs h.k left_now) h.walk
+
+      stands_first : CaseFirst text x.now
+      stands_first = record {
         vs = g.vs;
-        x = item g.xs s.k;
-        ys = rest g.xs (suc s.k);
-        c = get_or g.cs s.k no_case;
-        holds = walk_rest item_walk;
-        case = g.cases s.k left_now;
+        x = item g.xs h.k;
+        ys = rest g.xs (suc h.k);
+        c = get_or g.cs h.k no_case;
+        holds = subst (λ (c : List ℕ). Holds text c (cons (item g.xs h.k) (rest g.xs (suc h.k)))) (sym stepped.is) (walk_rest item_walk);
+        case = g.cases h.k left_now;
       }
 
-      here_now : Here text cells at (rest g.xs s.k)
-      here_now =
-          record { x = item g.xs s.k; ys = rest g.xs (suc s.k); is = rest_item g.xs s.k left_now; walk = item_walk; holds = walk_rest item_walk }
+      stands_on : Stands g t
+      stands_on = record {
+        cells_same = stepped.same;
+        k = h.k + 1;
+        walk = subst (λ (j : ℕ). Walk text cells t.at (rest g.xs j)) (sym (add-one h.k))
+            (go_on (record { x = item g.xs h.k; ys = rest g.xs (suc h.k); is = rest_item g.xs h.k left_now; walk = item_walk; holds = walk_rest item_walk }) stepped.behind).walk;
+        few = let n = left_now in omega (arith, n);
+      }
 
-      module _ {b : Bool} (is : b ≡ same (get_or g.cs s.k no_case).name name) where
-        pub seeking_found : b ≡ true → {part : List ℕ} → part ≡ take (length cells - at) (drop at cells) → CaseHere g.vs text cells g.cs name part
-        seeking_found e f =
-            record {
-              c = get_or g.cs s.k no_case;
-              is = s.whole ∙ named_yes g.cs name s.k (let n = left_now in omega (arith, g.many, n)) (sym is ∙ e);
-              x = item g.xs s.k;
-              ys = rest g.xs (suc s.k);
-              p = at;
-              from = f;
-              walk = item_walk;
-              there = l;
-              case = g.cases s.k left_now;
-            }
+      stands_found : (name : List ℕ) → case_named g.cs name ≡ case_named (drop h.k g.cs) name → true ≡ same (get_or g.cs h.k no_case).name name →
+          CaseHere g.vs text cells g.cs name x.now
+      stands_found name w e =
+          record {
+            c = get_or g.cs h.k no_case;
+            is = w ∙ named_yes g.cs name h.k (let n = left_now in omega (arith, g.many, n)) (sym e);
+            x = item g.xs h.k;
+            ys = rest g.xs (suc h.k);
+            p = s.at;
+            from = stepped.is;
+            walk = item_walk;
+            there = stepped.inside;
+            case = g.cases h.k left_now;
+          }
 
-        pub seeking_on : {next : ℕ} → b ≡ false → next ≡ behind at (item_at cells at) → Seeking g name next
-        unfolding here_now
-        seeking_on {next} e n =
-            record {
-              k = s.k + 1;
-              walk = subst (λ (j : ℕ). Walk text cells next (rest g.xs j)) (sym (add-one s.k)) (go_on here_now n).walk;
-              few = let n = left_now in omega (arith, n);
-              whole = s.whole ∙ named_no g.cs name s.k (let n = left_now in omega (arith, g.many, n)) (sym is ∙ e);
-            }
+  came_to : (xs : List (Bor (List ℕ))) {s t : Each} → Stands g s → Yields Walks s xs t → Stands g t
+  came_to [] h e = subst (λ z. Stands g z) e h
+  came_to (x ∷ xs) h (j, st, y) = came_to xs (stands_on h st) y
+
+  -- what may be asked of each
+  pub serves_cases : {P : Type 0} {R : P → Bor (List ℕ) → P → Type 0} {Q : P → Bor (List ℕ) → Type 0} {s : Each} {p : P} → Stands g s →
+      ((x : Bor (List ℕ)) (q : P) → R p x q → q ≡ p) → ((x : Bor (List ℕ)) → CaseFirst text x.now → Q p x) → CallableAtEachTurn Walks R Q s p
+  serves_cases {P} {R} {Q} {s} {p} h keeps asks =
+      serves_by R (λ xs (q : P). q ≡ p) (λ xs q x v j r. keeps x v (subst (λ (k : P). R k x v) j r)) Walks Q s p refl
+      (λ xs t q x u y e j. subst (λ (k : P). Q k x) (sym j) (asks x (stands_first (came_to xs h y) e)))
+
+  -- the name is compared with that of the case that was shown
+  abbrev pub Compares : List ℕ → Bor (List ℕ) → Bool → Type 0
+  Compares name x b = (y : Bor (List ℕ)) × (y ≡ x) × ((h : CaseFirst text y.now) → b ≡ same h.c.name name)
+
+  compared : (name : List ℕ) (x : Bor (List ℕ)) (b : Bool) → Compares name x b → (h : CaseFirst text x.now) → b ≡ same h.c.name name
+  compared name x b c = subst (λ (z : Bor (List ℕ)). (h : CaseFirst text z.now) → b ≡ same h.c.name name) c.1 c.2
+
+  -- the first one that a closure answers true of, which compares names
+  module _ {F : Type 0} (f : F) (name : List ℕ) {k : Mut F (Bor (Bor (List ℕ)) × Unit {0}) Bool} where
+    pub first_case : (xs : List (Bor (List ℕ))) {s : Each} (t u : Each) (j : F) (r : Option (Bor (List ℕ))) (h : Stands g s) → case_named g.cs name ≡ case_named (drop h.k g.cs) name →
+        Yields Walks s xs t → Walks t r u → FoldsTo (λ p x q. CalledAt k p x false q) f xs j → MatchOption r ⊤ (λ x. (q : F) × CalledAt k j x true q) →
+        ((x : Bor (List ℕ)) (b : Bool) (q : F) → CalledAt k f x b q → (q ≡ f) × Compares name x b) → CaseFound g.vs text cells g.cs name r
+    unfolding stands_first stands_on
+    first_case [] {s} t u j nothing h w y o l m says = w ∙ stands_over h name (subst (λ (z : Each). Over z u) (sym y) o)
+    first_case [] {s} t u j (some x) h w y o l m says =
+        let st : Step s x u = subst (λ (z : Each). Step z x u) (sym y) o in
+        stands_found h st name w (compared name x true (says x true m.0 (subst (λ (z : F). CalledAt k z x true m.0) (sym l) m.1)).1 (stands_first h st))
+    first_case (x ∷ xs) t u j r h w (i, st, y) o (v, c, l) m says =
+        let z = says x false v c in
+        first_case xs t u j r (stands_on h st)
+        (w ∙ named_no g.cs name h.k (let n = left_now h st in omega (arith, g.many, n)) (sym (compared name x false z.1 (stands_first h st))))
+        y o (subst (λ (p : F). FoldsTo (λ p x q. CalledAt k p x false q) p xs j) z.0 l) m says
 
 -- One case a name ------------------------------------------------------------------------------------------------------------------------------
 

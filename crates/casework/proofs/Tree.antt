@@ -3,6 +3,10 @@ use mathlib.Core.Path.{◌≡◌, refl, sym, ap, ◌∙◌, subst}
 use mathlib.Core.Bool.{Bool, true, false, true≢false}
 use mathlib.Core.List.{List}
 use Prim.Native.Nat.{ℕ, suc, ◌+◌, ◌*◌, ◌/◌, ◌%◌, ◌^◌, ◌<◌, ◌≤◌}
+use Rattle.std.specs.Prelude.{Option, Some as some, None as nothing}
+use Rattle.std.specs.Option.{MatchOption}
+use Rattle.std.specs.Slice.{IsItemAt}
+use Rattle.std.proofs.Common.{Bor}
 use native.Mathlib.Omega.{arith}
 use native.Mathlib.Numerals.{add-one}
 use native.Mathlib.Decide.{ℕ_discrete}
@@ -15,14 +19,14 @@ use Rattle.casework.specs.Distinct.{turn_of, between, name_of, Way, done, on, Co
 
 -- Turns ------------------------------------------------------------------------------------------------------------------------------------------
 
--- where the name is over
-pub turn_over : (name : List ℕ) (d : ℕ) → length name ≤ d / 8 → 0 ≡ turn_of name d
+-- where the name is over, 0; else the bit of a letter
+pub turned : (name : List ℕ) (d : ℕ) {r : ℕ} (o : Option (Bor ℕ)) → IsItemAt name (d / 8) o →
+    MatchOption o (r ≡ 0) (λ x. r ≡ x.now / 2 ^ (d % 8) % 2) → (r ≡ turn_of name d) × (r < 2)
 unfolding turn_of
-turn_over name d l = sym (ap (λ (v : ℕ). v / 2 ^ (d % 8) % 2) (get_or-eq_default name 0 {n = d / 8} l) ∙ ap (λ (v : ℕ). v % 2) (zero-div (2 ^ (d % 8))))
-
-pub turn_is : (name : List ℕ) (d : ℕ) → get_or name (d / 8) 0 / 2 ^ (d % 8) % 2 ≡ turn_of name d
-unfolding turn_of
-turn_is name d = refl
+turned name d nothing l e =
+    let over : length name ≤ d / 8 = l.3 in
+    (e ∙ sym (ap (λ (v : ℕ). v / 2 ^ (d % 8) % 2) (get_or-eq_default name 0 {n = d / 8} over) ∙ ap (λ (v : ℕ). v % 2) (zero-div (2 ^ (d % 8)))), omega (arith, e))
+turned name d (some x) l e = (e ∙ ap (λ (v : ℕ). v / 2 ^ (d % 8) % 2) (l.3.1 0), omega (arith, e))
 
 -- Ways -------------------------------------------------------------------------------------------------------------------------------------------
 

@@ -3,8 +3,8 @@ use Rattle.std.specs.Prelude.{◌≡◌, Bool, false, List, [], ◌∷◌, ◌++
 use denote.Ref.{Bor}
 use Rattle.rules.specs.Limits.{LENGTH, VARIABLES}
 use Rattle.rules.specs.Out.{ok, refuse}
-use Rattle.rules.specs.Lex.{letters}
 use Rattle.rules.specs.Text.{same}
+use Rattle.rules.specs.Lex.{letters}
 use Rattle.rules.specs.Find.{any}
 use Rattle.rules.specs.Sexp.{Sexp, Sexps, atom, list, cons, count, item}
 use Rattle.rules.specs.Store.{Made}
@@ -16,7 +16,8 @@ use Rattle.sexp.specs.WalkLaws.{Walk}
 use Rattle.reading.specs.declared.reader.Reader.{Reader}
 use Rattle.reading.specs.Given.{VarsItem, VarsItems}
 use Rattle.reading.specs.Items.{index_in, vars_in}
-use Rattle.casework.specs.Distinct.{name_of, TreeIn}
+use Rattle.cells.specs.declared.Span.{Span}
+use Rattle.casework.specs.Distinct.{between, name_of, TreeIn}
 use Rattle.casework.specs.declared.distinct.NameTree.{NameTree}
 use Rattle.casework.specs.declared.cases.CaseRead.{CaseRead}
 use Rattle.questions.specs.declared.Question.{Question}
@@ -64,18 +65,21 @@ ReadsCases r cells = VarsItems r.goals.now r.text.now r.vars.now r.n.vars cells
 -- One case -------------------------------------------------------------------------------------------------------------------------
 
 -- the item is read: its name begins at a place of the text, its variables are in the cells
-pub record CaseIs (S : State) (text : List ℕ) (x : Sexp) (cells : List ℕ) (start fact many : ℕ) : Type 0 where
+pub record CaseIs (S : State) (text : List ℕ) (x : Sexp) (cells : List ℕ) (name : Span) (fact many : ℕ) : Type 0 where
   pub c : Case
   pub read : (M : Made) → read_case S x M ≡ ok c M
   pub case : CaseItem S.vars x c
-  pub inside : start < length text
-  pub bytes : c.name ≡ letters (drop start text)
+  pub inside : name.from < length text
+  pub whole : c.name ≡ letters (drop name.from text)
+  pub low : name.from ≤ name.end
+  pub high : name.end ≤ length text
+  pub bytes : c.name ≡ between text name.from name.end
   pub number : fact ≡ c.fact
   pub count : many ≡ length c.vars
   pub cells_are : cells ≡ filled VARIABLES c.vars
 
 abbrev pub CaseAs : State → List ℕ → Sexp → Result CaseRead Question → Type 0
-CaseAs S text x (Ok r) = CaseIs S text x r.own r.start r.fact r.variables
+CaseAs S text x (Ok r) = CaseIs S text x r.own r.name r.fact r.variables
 CaseAs S text x (Err e) = ((M : Made) → read_case S x M ≡ refuse (number_of e) (detail_of e) M) × (detail_of e ≡ 0)
 
 -- The case of a name ---------------------------------------------------------------------------------------------------------------

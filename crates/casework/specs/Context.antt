@@ -16,7 +16,7 @@ use Rattle.terms.specs.declared.store.Mark.{Mark}
 use Rattle.terms.specs.Table.{made, args_of, Below, Good}
 use Rattle.terms.specs.Sets.{holds, plus}
 use Rattle.terms.specs.Theta.{Theta}
-use Rattle.terms.specs.Patterns.{bound_of, Cells}
+use Rattle.terms.specs.Patterns.{cells_of, bound_of, Cells}
 use Rattle.terms.specs.On.{Went, Stopped}
 use Rattle.kernel.specs.declared.rule_readers.Rules.{Rules}
 use Rattle.kernel.specs.Readers.{FormedRules}
@@ -31,10 +31,6 @@ use Rattle.referring.specs.Recall.{fact_of, Recalls}
 use Rattle.casework.specs.declared.context.Grounds.{Grounds}
 use Rattle.casework.specs.declared.context.Allowing.{Allowing}
 use Rattle.casework.specs.declared.context.Renamed.{Renamed}
-
--- cells for the numbers of a fact's premises, as many as are lent: those that `induction` has for a case
-abbrev pub IDS : ℕ
-IDS = 40960
 
 -- Allowed facts by numbers -----------------------------------------------------------------------------------------------------------
 
@@ -175,7 +171,7 @@ pub record RenamedRule (symbols rules patterns : List ℕ) (n : Sizes) (I W : Li
   pub good : Good I W m
 
 abbrev pub RenamedIn : Rules → List ℕ → Sizes → Store → Renamed → Type 0
-RenamedIn p symbols n s u = RenamedRule symbols p.rows.now p.patterns.now n s.index.now s.words.now s.mark u.rule u.bound.now
+RenamedIn p symbols n s u = RenamedRule symbols p.rows.now p.patterns.now n s.index.now s.words.now s.mark u.rule (cells_of u.bound.now)
 
 -- K answers them, and the set got their numbers
 pub record PremisesRead (I W J X : List ℕ) (old : Mark) (K : Out Made (List Allowed)) (set set' : List ℕ) (new : Mark) : Type 0 where

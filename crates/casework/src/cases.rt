@@ -8,6 +8,7 @@ ghost use Rattle.casework.specs.Cases.{ReadsCase, ReadsCases, CaseFirst, CasesIn
 ghost use Rattle.casework.specs.Distinct.{between};
 
 use crate::distinct::NameTree;
+use cells::Span;
 use questions::Question;
 use reading::names::index as index_in;
 use reading::reader::Reader;
@@ -22,10 +23,14 @@ const FEW: usize = 16;
 // The cells of a tree for 8,191 names, two for each.
 const NAMECELLS: usize = 16384;
 
-// Where the case's name begins, the number of its fact, its variables, and how many they are: there is no heap for a list.
+// Those of a tree with a root and no room for a name.
+const ROOTCELLS: usize = 2;
+
+// Where the case's name, an atom, stands in the text, the number of its fact, its variables, and how many they are, in an array as long as a list of them may be: no
+// heap, and the core stands on `std` alone.
 #[derive(Clone, Copy)]
 pub struct CaseRead {
-    pub start: usize,
+    pub name: Span,
     pub fact: usize,
     pub own: [u32; VARIABLES],
     pub variables: usize,
@@ -36,27 +41,20 @@ pub fn read_case(reader: &Reader<'_>, cells: &[u32]) -> Result<CaseRead, Questio
     requires { ReadsCase reader.now cells.now }
     ensures { (g : ReadsCase reader.now cells.now) → CaseAs g.S reader.now.text.now g.x result }
 {
-    let Item::List(a, b) = items::item_at(cells, 0) else {
-        return Err(Question::Cases);
-    };
-    let inner = &cells[a..b];
+    let inner = items::list(cells, 0).ok_or(Question::Cases)?;
     if items::count(inner) != 3 {
         return Err(Question::Cases);
     }
     let Item::Atom(start) = items::item_at(inner, 0) else {
         return Err(Question::Cases);
     };
-    let second = items::place(inner, 1);
-    let Some(fact) = index_in(reader.text, &inner[second..]) else {
-        return Err(Question::Cases);
-    };
-    let third = items::place(inner, 2);
+    let fact = index_in(reader.text, items::from(inner, 1)).ok_or(Question::Cases)?;
     let mut own = [0u32; VARIABLES];
-    let Some(variables) = reader.vars_list(&inner[third..], &mut own) else {
-        return Err(Question::CaseVariables);
-    };
+    let listed = reader.vars_list(items::from(inner, 2), &mut own);
+    let variables = listed.ok_or(Question::CaseVariables)?;
+    let end = lex::atom_end(reader.text, start);
     Ok(CaseRead {
-        start,
+        name: Span { from: start, end },
         fact,
         own,
         variables,
@@ -68,13 +66,10 @@ fn is_named(text: &[u8], cells: &[u32], name: &[u8]) -> bool
     requires { CaseFirst text.now cells.now }
     ensures { (g : CaseFirst text.now cells.now) → result ≡ same g.c.name name.now }
 {
-    let Item::List(a, b) = items::item_at(cells, 0) else {
+    let Some(inner) = items::list(cells, 0) else {
         return false;
     };
-    let Some(own) = items::head(text, &cells[a..b]) else {
-        return false;
-    };
-    same(own, name)
+    items::head(text, inner).is_some_and(|own| same(own, name))
 }
 
 // The case with that name, the first one of those in the cells: the cells from it on.
@@ -82,12 +77,7 @@ pub fn find_case<'a>(text: &[u8], cells: &'a [u32], name: &[u8]) -> Option<&'a [
     requires { CasesIn text.now cells.now }
     ensures { (g : CasesIn text.now cells.now) → CaseFound g.vs text.now cells.now g.cs name.now result }
 {
-    for item in items::all(cells) {
-        if is_named(text, item, name) {
-            return Some(item);
-        }
-    }
-    None
+    items::all(cells).find(|item| is_named(text, item, name))
 }
 
 // Whether one of the cases in the cells has that name, each looked at.
@@ -99,21 +89,21 @@ fn is_among(text: &[u8], cells: &[u32], name: &[u8]) -> bool
     find_case(text, cells, name).is_some()
 }
 
-// Whether one of the cases in the cells has the name between two places; if not, it comes into the tree of their names, where that has room.
-fn is_taken(names: &mut NameTree<'_, '_>, cells: &[u32], start: usize, end: usize) -> bool
-    requires { Naming names.old cells.now × (start ≤ end) × (end ≤ length names.old.text.now) }
+// Whether one of the cases in the cells has the name; if not, it comes into the tree of their names, where that has room.
+fn is_taken(names: &mut NameTree<'_, '_>, cells: &[u32], name: Span) -> bool
+    requires { Naming names.old cells.now × (name.from ≤ name.end) × (name.end ≤ length names.old.text.now) }
     ensures same_text { names.new.text ≡ names.old.text }
     ensures taken { (g : Naming names.old cells.now) →
-        TakenAs names.new g.first.cs (between names.old.text.now start end) result }
+        TakenAs names.new g.first.cs (between names.old.text.now name.from name.end) result }
 {
     let text = names.text;
     if text.len() > LENGTH {
-        return is_among(text, cells, &text[start..end]);
+        return is_among(text, cells, name.of(text));
     }
     if names.places.len() / 2 <= names.many + 1 {
-        return is_among(text, cells, &text[start..end]);
+        return is_among(text, cells, name.of(text));
     }
-    names.enter(start, end)
+    names.enter(name)
 }
 
 // All cases are read, with a tree for their names, in which there is none.
@@ -127,9 +117,8 @@ fn read_with(
 {
     for item in items::all(cells) {
         let case = read_case(reader, item)?;
-        let end = lex::atom_end(reader.text, case.start);
         let before = &cells[..cells.len() - item.len()];
-        if is_taken(names, before, case.start, end) {
+        if is_taken(names, before, case.name) {
             return Err(Question::Cases);
         }
     }
@@ -153,8 +142,8 @@ fn read_in<const CELLS: usize>(reader: &Reader<'_>, cells: &[u32]) -> Result<(),
 }
 
 // All cases are read: what is asked of each, and that no two have one name. For many cases the tables are for more names than a text has room for: they
-// are zeroed for long lists alone. Two cells are no room for a tree, so that few names are compared by pairs. It is no Option: a tree without room is
-// asked about all the same (`is_taken`), and no tree would be one more case of it.
+// are zeroed for long lists alone. For few there is no tree: the tables of a root alone have no room for a name, so that `is_taken`, which asks about
+// room, compares by pairs. No Option of a tree says that instead: `is_taken` would ask whether there is one and then about room all the same.
 pub fn read_cases(reader: &Reader<'_>, cells: &[u32]) -> Result<(), Question>
     requires { ReadsCases reader.now cells.now }
     ensures { (g : ReadsCases reader.now cells.now) → CasesAs g.S g.xs result }
@@ -162,5 +151,5 @@ pub fn read_cases(reader: &Reader<'_>, cells: &[u32]) -> Result<(), Question>
     if items::count(cells) > FEW {
         return read_in::<NAMECELLS>(reader, cells);
     }
-    read_in::<2>(reader, cells)
+    read_in::<ROOTCELLS>(reader, cells)
 }

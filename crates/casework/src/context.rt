@@ -1,5 +1,6 @@
 // What a case of `invert` may rest on: the rule's premises and the facts of the context, under the unifier. Those without premises and generalised
-// variables are a set of terms; each other one is compared with the facts that the case rests on (question 44), which come into a set.
+// variables are a set of terms; each other one is compared with the facts that the case rests on (question 44), which come into a set. `none_in`, a
+// question of sets, is here for inversion too.
 ghost use Rattle.state.specs.Records.{fact_rows};
 ghost use Rattle.std.specs.Prelude.{◌≡◌, not, List, ℕ, ◌*◌, ◌<◌, length, replicate};
 ghost use Rattle.rules.specs.Limits.{VARIABLES, TERMS, TERMWORDS, FACTWORDS};
@@ -19,7 +20,8 @@ ghost use Rattle.state.specs.Rows.{premises_span};
 ghost use Rattle.referring.specs.Recall.{fact_of};
 ghost use Rattle.referring.specs.Sources.{RecallsIn};
 ghost use Rattle.terms.specs.Table.{Below};
-ghost use Rattle.casework.specs.Context.{IDS, Comparing, allowed_as, plainly, Adds, ContextAs, UnderAs, one, all_of, under, ContextIn, MarkedAs, OneMarked, UnboundAs, RestsIn, rests_by, RenamedIn, PremisesAs};
+ghost use Rattle.referring.specs.Ids.{IDS};
+ghost use Rattle.casework.specs.Context.{Comparing, allowed_as, plainly, Adds, ContextAs, UnderAs, one, all_of, under, ContextIn, MarkedAs, OneMarked, UnboundAs, RestsIn, rests_by, RenamedIn, PremisesAs};
 
 use cells::clear;
 use kernel::rule_readers::Rules;
@@ -29,16 +31,19 @@ use referring::source::Facts;
 use referring::substitutes::substitute_all;
 use rules::{FACTWORDS, TERMWORDS, VARIABLES, VARIABLEWORDS};
 use state::recorded::{is_assumed, is_plain, judgment};
+use terms::patterns::Bound;
 use terms::sets::{has, insert};
 use terms::store::{Store, Terms};
 use terms::substitute::substitute;
 
-// What a case may rest on, of whose fact these are the hypotheses: what has neither premises nor generalised variables by its judgment, a set of terms;
-// of the rest those hypotheses that are allowed, a set of facts.
+// What a case may rest on.
 #[derive(Clone, Copy)]
 pub struct Grounds<'a> {
+    // what the case's fact rests on
     pub own: &'a [u32],
+    // a set of terms: the judgments that are allowed without premises and generalised variables
     pub plain: [u64; TERMWORDS],
+    // a set of facts: those of `own` that are allowed with premises or generalised variables
     pub fine: [u64; FACTWORDS],
 }
 
@@ -50,51 +55,49 @@ pub struct Allowing<'a> {
     pub general: &'a [u32],
 }
 
-// A rule, with the terms that its variables are renamed to and the unifier, each in cells: 0 for none and a number with 1 added, what `substitute` and
-// patterns read.
+// A rule, with the terms that its variables are renamed to, which patterns are built over, and the unifier in cells: 0 for none and a number with 1 added,
+// as `substitute` takes it.
 #[derive(Clone, Copy)]
 pub struct Renamed<'a> {
     pub rule: usize,
-    pub bound: &'a [u32],
+    pub bound: &'a Bound,
     pub theta: &'a [u32],
 }
 
-// Nothing is allowed yet.
-pub fn no_grounds(own: &[u32]) -> Grounds<'_>
-    ensures { (result.own.now ≡ own.now) × (result.plain ≡ replicate TERMWORDS 0) × (result.fine ≡ replicate FACTWORDS 0) }
-{
-    Grounds {
-        own,
-        plain: [0; TERMWORDS],
-        fine: [0; FACTWORDS],
+impl Allowing<'_> {
+    // Whether it has neither premises nor generalised variables.
+    fn is_plain(&self) -> bool
+        ensures { (M : Made) → result ≡ plainly (allowed_as M self.now) }
+    {
+        self.premises.is_empty() && self.general.is_empty()
     }
-}
 
-// Whether fact h has that judgment, those premises and generalised variables.
-fn is_row(facts: &Facts<'_>, h: usize, allowing: &Allowing<'_>) -> bool
-    requires { Comparing facts.now allowing.now × (h < facts.now.n.facts) }
-    ensures { (g : Comparing facts.now allowing.now) → result ≡ is_allowed (fact_of g.recalls.S h) (allowed_as (made g.index g.words g.mark) allowing.now) }
-{
-    if judgment(facts.records, h) != allowing.judgment {
-        return false;
+    // Whether fact h has its judgment, premises and generalised variables.
+    fn is_fact(&self, facts: &Facts<'_>, h: usize) -> bool
+        requires { Comparing facts.now self.now × (h < facts.now.n.facts) }
+        ensures { (g : Comparing facts.now self.now) → result ≡ is_allowed (fact_of g.recalls.S h) (allowed_as (made g.index g.words g.mark) self.now) }
+    {
+        if judgment(facts.records, h) != self.judgment {
+            return false;
+        }
+        self.premises == facts.premises(h) && self.general == facts.general(h)
     }
-    allowing.premises == facts.premises(h) && allowing.general == facts.general(h)
 }
 
 // Fact h joins the set where it has that judgment, those premises and generalised variables.
-fn mark_one(facts: &Facts<'_>, h: usize, allowing: &Allowing<'_>, fine: &mut [u64])
-    requires { Comparing facts.now allowing.now × (h < facts.now.n.facts) × (length fine.old ≡ FACTWORDS) }
+fn mark_one(facts: &Facts<'_>, h: usize, allowing: &Allowing<'_>, fine: &mut [u64; FACTWORDS])
+    requires { Comparing facts.now allowing.now × (h < facts.now.n.facts) }
     ensures { (g : Comparing facts.now allowing.now) →
         OneMarked (is_allowed (fact_of g.recalls.S h) (allowed_as (made g.index g.words g.mark) allowing.now)) h fine.old fine.new }
 {
-    if is_row(facts, h, allowing) {
+    if allowing.is_fact(facts, h) {
         insert(fine, h);
     }
 }
 
 // Those of the facts `own` that have that judgment, those premises and generalised variables join the set.
-fn mark_rests(facts: &Facts<'_>, own: &[u32], allowing: &Allowing<'_>, fine: &mut [u64])
-    requires { Comparing facts.now allowing.now × Below facts.now.n.facts own.now × (length fine.old ≡ FACTWORDS) }
+fn mark_rests(facts: &Facts<'_>, own: &[u32], allowing: &Allowing<'_>, fine: &mut [u64; FACTWORDS])
+    requires { Comparing facts.now allowing.now × Below facts.now.n.facts own.now }
     ensures { (g : Comparing facts.now allowing.now) →
         MarkedAs g.recalls.S own.now (allowed_as (made g.index g.words g.mark) allowing.now) fine.old fine.new }
 {
@@ -103,27 +106,50 @@ fn mark_rests(facts: &Facts<'_>, own: &[u32], allowing: &Allowing<'_>, fine: &mu
     }
 }
 
-// Whether it has neither premises nor generalised variables.
-fn is_bare(allowing: &Allowing<'_>) -> bool
-    ensures { (M : Made) → result ≡ plainly (allowed_as M allowing.now) }
-{
-    allowing.premises.is_empty() && allowing.general.is_empty()
-}
-
-// What a fact of the context allows joins the sets.
-fn allow<'a>(facts: &Facts<'_>, allowing: &Allowing<'_>, grounds: Grounds<'a>) -> Grounds<'a>
-    requires { Comparing facts.now allowing.now × Below facts.now.n.facts grounds.own.now }
-    ensures adds { (g : Comparing facts.now allowing.now) →
-        Adds (made g.index g.words g.mark) g.recalls.S grounds.entry.own.now grounds.entry.plain result.plain grounds.entry.fine result.fine (one (allowed_as (made g.index g.words g.mark) allowing.now)) }
-    ensures own { result.own ≡ grounds.entry.own }
-{
-    let mut more = grounds;
-    if is_bare(allowing) {
-        insert(&mut more.plain, allowing.judgment);
-        return more;
+impl<'a> Grounds<'a> {
+    // Nothing is allowed yet.
+    pub fn none(own: &'a [u32]) -> Self
+        ensures { (result.own.now ≡ own.now) × (result.plain ≡ replicate TERMWORDS 0) × (result.fine ≡ replicate FACTWORDS 0) }
+    {
+        Grounds {
+            own,
+            plain: [0; TERMWORDS],
+            fine: [0; FACTWORDS],
+        }
     }
-    mark_rests(facts, grounds.own, allowing, &mut more.fine);
-    more
+
+    // What a fact of the context allows joins the sets.
+    fn allow(&mut self, facts: &Facts<'_>, allowing: &Allowing<'_>)
+        requires { Comparing facts.now allowing.now × Below facts.now.n.facts self.old.own.now }
+        ensures adds { (g : Comparing facts.now allowing.now) →
+            Adds (made g.index g.words g.mark) g.recalls.S self.old.own.now self.old.plain self.new.plain self.old.fine self.new.fine (one (allowed_as (made g.index g.words g.mark) allowing.now)) }
+        ensures own { self.new.own ≡ self.old.own }
+    {
+        if allowing.is_plain() {
+            insert(&mut self.plain, allowing.judgment);
+            return;
+        }
+        mark_rests(facts, self.own, allowing, &mut self.fine);
+    }
+
+    // Whether the case may rest on fact h.
+    fn rests_on(&self, facts: &Facts<'_>, h: usize) -> bool
+        requires { RestsIn facts.now × (h < facts.now.n.facts) }
+        ensures { (g : RestsIn facts.now) → result ≡ rests_by g.trees (fact_of g.S h) h (holds self.now.plain) (holds self.now.fine) }
+    {
+        if is_plain(facts.records, h) {
+            return has(&self.plain, judgment(facts.records, h));
+        }
+        is_assumed(facts.records, h) && has(&self.fine, h)
+    }
+
+    // Question 44: whether the case may rest on all that it rests on.
+    pub fn rests_on_all(&self, facts: &Facts<'_>) -> bool
+        requires { RestsIn facts.now × Below facts.now.n.facts self.now.own.now }
+        ensures { (g : RestsIn facts.now) → result ≡ all (λ h. rests_by g.trees (fact_of g.S h) h (holds self.now.plain) (holds self.now.fine)) self.now.own.now }
+    {
+        self.own.iter().all(|h| self.rests_on(facts, *h as usize))
+    }
 }
 
 // Fact h of the context under the substitution `map`, and what it allows. `memo` is scratch: zero before and after; `ids` has a cell for each of the
@@ -150,7 +176,9 @@ fn fact_under<'a>(
         premises: ids,
         general: facts.general(h),
     };
-    Ok(allow(facts, &allowing, grounds))
+    let mut more = grounds;
+    more.allow(facts, &allowing);
+    Ok(more)
 }
 
 // The same, with as many cells of `ids` as the fact has premises, which are cleared behind it: zero before and after.
@@ -190,12 +218,7 @@ pub fn none_in(set: &[u64], variables: &[u32]) -> bool
     requires { Below (64 * length set.now) variables.now }
     ensures { result ≡ all (λ v. not (holds set.now v)) variables.now }
 {
-    for v in variables {
-        if has(set, *v as usize) {
-            return false;
-        }
-    }
-    true
+    variables.iter().all(|v| !has(set, *v as usize))
 }
 
 // Question 48: whether no value of the map has one of the variables.
@@ -287,28 +310,4 @@ pub fn rule_premises<'a, 't>(
         place = premise.end;
     }
     Ok(more)
-}
-
-// Whether the case may rest on fact h.
-fn rests_on(facts: &Facts<'_>, h: usize, grounds: &Grounds<'_>) -> bool
-    requires { RestsIn facts.now × (h < facts.now.n.facts) }
-    ensures { (g : RestsIn facts.now) → result ≡ rests_by g.trees (fact_of g.S h) h (holds grounds.now.plain) (holds grounds.now.fine) }
-{
-    if is_plain(facts.records, h) {
-        return has(&grounds.plain, judgment(facts.records, h));
-    }
-    is_assumed(facts.records, h) && has(&grounds.fine, h)
-}
-
-// Question 44: whether the case may rest on all that it rests on.
-pub fn rests_on_all(facts: &Facts<'_>, grounds: &Grounds<'_>) -> bool
-    requires { RestsIn facts.now × Below facts.now.n.facts grounds.now.own.now }
-    ensures { (g : RestsIn facts.now) → result ≡ all (λ h. rests_by g.trees (fact_of g.S h) h (holds grounds.now.plain) (holds grounds.now.fine)) grounds.now.own.now }
-{
-    for h in grounds.own {
-        if !rests_on(facts, *h as usize, grounds) {
-            return false;
-        }
-    }
-    true
 }

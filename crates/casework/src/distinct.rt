@@ -4,18 +4,15 @@ ghost use Rattle.std.specs.Prelude.{◌≡◌, ◌+◌, ◌*◌, ◌<◌, ◌≤
 ghost use Rattle.rules.specs.Limits.{LENGTH};
 ghost use Rattle.casework.specs.Distinct.{turn_of, between, TreeIn, SpotIn, SameNames, EnteredIn};
 
+use cells::{Span, span_at};
 use sexp::names::same;
 
-// Which of two ways a name takes at a depth.
+// Which of two ways a name takes at a depth: a number, since the way's cell is that far behind the first of a node's two.
 fn turn(name: &[u8], depth: usize) -> usize
     ensures { (result ≡ turn_of name.now depth) × (result < 2) }
 {
-    let at = depth / 8;
-    if at >= name.len() {
-        return 0;
-    }
-    let letter = usize::from(name[at]);
-    (letter >> (depth % 8)) % 2
+    name.get(depth / 8)
+        .map_or(0, |letter| (usize::from(*letter) >> (depth % 8)) % 2)
 }
 
 // The names that were met, between two places of the text each, as a tree in cells. It is two tables of cells and no array of nodes: a link is one cell
@@ -43,9 +40,8 @@ impl NameTree<'_, '_> {
                 return Some(cell);
             }
             let row = 2 * node;
-            let start = self.places[row] as usize;
-            let end = self.places[row + 1] as usize;
-            if same(&self.text[start..end], name) {
+            let met = span_at(self.places, row);
+            if same(met.of(self.text), name) {
                 return None;
             }
             cell = row + turn(name, depth);
@@ -53,21 +49,21 @@ impl NameTree<'_, '_> {
         }
     }
 
-    // Whether the name between two places is one of those in the tree; if not, it comes in.
-    pub fn enter(&mut self, start: usize, end: usize) -> bool
+    // Whether the name is one of those in the tree; if not, it comes in.
+    pub fn enter(&mut self, name: Span) -> bool
         requires tree { TreeIn self.old × (2 * self.old.many + 4 ≤ length self.old.places.now) × (length self.old.places.now ≤ LENGTH) }
-        requires start_le_end { (start ≤ end) × (end ≤ length self.old.text.now) × (length self.old.text.now ≤ LENGTH) }
+        requires inside { (name.from ≤ name.end) × (name.end ≤ length self.old.text.now) × (length self.old.text.now ≤ LENGTH) }
         ensures same_names { SameNames self.old self.new }
-        ensures entered { EnteredIn self.old self.new (between self.old.text.now start end) result }
+        ensures entered { EnteredIn self.old self.new (between self.old.text.now name.from name.end) result }
     {
         let text = self.text;
-        let Some(cell) = self.seek(&text[start..end]) else {
+        let Some(cell) = self.seek(name.of(text)) else {
             return true;
         };
         let node = self.many + 1;
         let row = 2 * node;
-        self.places[row] = start as u32;
-        self.places[row + 1] = end as u32;
+        self.places[row] = name.from as u32;
+        self.places[row + 1] = name.end as u32;
         self.links[cell] = node as u32;
         self.many = node;
         false

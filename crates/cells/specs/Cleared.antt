@@ -1,5 +1,5 @@
--- A table whose first cells are cleared as a part of it. Assumes nothing.
-use Rattle.std.proofs.Common.{◌≡◌, ap, ◌∙◌, ℕ, ◌≤◌, List, ◌++◌, length, take, drop, replicate, arith, length-append, length-drop, length-take-le}
+-- A table whose first cells are cleared as a part of it, and one that is cleared where an answer is a refusal. Assumes nothing.
+use Rattle.std.proofs.Common.{◌≡◌, ap, ◌∙◌, ℕ, ◌≤◌, List, Result, Ok, Err, ◌++◌, length, take, drop, replicate, arith, length-append, length-drop, length-take-le}
 use Rattle.std.proofs.lemmas.List.{length-replicate}
 
 module _ {A : Type 0} (z : A) (n : ℕ) (w : List A) {front : List A} (h : n ≤ length w) (e : front ≡ replicate (length (take n w)) z) where
@@ -8,3 +8,8 @@ module _ {A : Type 0} (z : A) (n : ℕ) (w : List A) {front : List A} (h : n ≤
 
   pub front_length : length (front ++ drop n w) ≡ length w
   front_length = ap length front_cleared ∙ omega (arith, h, length-append (replicate n z) (drop n w), length-replicate n z, length-drop n w)
+
+-- kept where there is an answer, and cleared to a value where it is a refusal
+abbrev pub ClearedBy : {A E T : Type 0} → T → Result A E → List T → List T → Type 0
+ClearedBy zero (Ok _) before after = after ≡ before
+ClearedBy zero (Err _) before after = after ≡ replicate (length before) zero

@@ -1,7 +1,8 @@
 // Cells of tables as such: parts of them, set to zero, copied. Whoever means a part of a table lends that part.
 #![tactic(auto)]
 
-ghost use Rattle.std.specs.Prelude.{◌≡◌, ◌++◌, ◌+◌, ◌<◌, ◌≤◌, length, get_or, drop, replicate};
+ghost use Rattle.std.specs.Prelude.{◌≡◌, ◌++◌, ◌+◌, ◌-◌, ◌<◌, ◌≤◌, length, get_or, take, drop, replicate};
+ghost use Rattle.cells.specs.Cleared.{ClearedBy};
 
 // What a table is made of: a cell of it, or a word of a set.
 pub trait Cell: Copy {
@@ -30,6 +31,16 @@ pub struct Span {
     pub end: usize,
 }
 
+impl Span {
+    // The part of a table, or of a text, that it names.
+    pub fn of<'a, T>(&self, whole: &'a [T]) -> &'a [T]
+        requires { (self.now.from ≤ self.now.end) × (self.now.end ≤ length whole.now) }
+        ensures { result.now ≡ take (self.now.end - self.now.from) (drop self.now.from whole.now) }
+    {
+        &whole[self.from..self.end]
+    }
+}
+
 // The part that two cells of a table give, the first of them at that place.
 pub fn span_at(table: &[u32], at: usize) -> Span
     requires { at + 1 < length table.now }
@@ -41,13 +52,25 @@ pub fn span_at(table: &[u32], at: usize) -> Span
     }
 }
 
-// Every cell becomes 0: a loop and no `fill`, which clones, and of a clone the trait would have to say that it cannot fail and is the same.
+// Every cell becomes 0: a loop and no `fill`, which clones, and of a clone the trait would have to say that it cannot fail and is the same. Where `u32` or `u64`
+// is known `fill(0)` would do; the name stays, since it says what is meant, and its one equation is what the proofs cite and where the edits bend it.
 pub fn clear<T: Cell>(cells: &mut [T])
     ensures { cells.new ≡ replicate (length cells.old) T.ZERO }
 {
     for cell in cells.iter_mut() {
         *cell = T::ZERO;
     }
+}
+
+// The answer of what was read into cells, zero before: where it is a refusal, they become zero again.
+pub fn or_cleared<A, E, T: Cell>(answer: Result<A, E>, cells: &mut [T]) -> Result<A, E>
+    ensures same { result ≡ answer }
+    ensures cleared { ClearedBy T.ZERO answer cells.old cells.new }
+{
+    if answer.is_err() {
+        clear(cells);
+    }
+    answer
 }
 
 // The cells of the other come into the first ones.

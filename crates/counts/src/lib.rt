@@ -1,8 +1,10 @@
-// The running counts of a check: one record, lent by `&mut` to one thin function that adds what a form counts.
+// The running counts of a check: one record, to which is added what a form counts.
 #![tactic(auto)]
 
 ghost use Rattle.std.specs.Prelude.{◌≡◌};
 ghost use Rattle.counts.specs.Sum.{sum, Fits};
+
+use std::ops::{Add, AddAssign};
 
 // Hypotheses stated, inductions, inversions, and instances among the references of steps.
 #[derive(Clone, Copy, Debug, PartialEq, Eq)]
@@ -24,22 +26,30 @@ impl Counts {
 }
 
 // Both together.
-pub fn plus(c: Counts, more: Counts) -> Counts
-    requires { Fits c more }
-    ensures { result ≡ sum c more }
-{
-    Counts {
-        hypotheses: c.hypotheses + more.hypotheses,
-        inductions: c.inductions + more.inductions,
-        inversions: c.inversions + more.inversions,
-        instances: c.instances + more.instances,
+impl Add for Counts {
+    ghost can_add = { Fits };
+
+    ghost add_gives = { λ c more both. both ≡ sum c more };
+
+    type Output = Counts;
+
+    fn add(self, more: Counts) -> Counts {
+        Counts {
+            hypotheses: self.hypotheses + more.hypotheses,
+            inductions: self.inductions + more.inductions,
+            inversions: self.inversions + more.inversions,
+            instances: self.instances + more.instances,
+        }
     }
 }
 
-// What a form counts comes to the lent record.
-pub fn add(c: &mut Counts, more: Counts)
-    requires { Fits c.old more }
-    ensures { c.new ≡ sum c.old more }
-{
-    *c = plus(*c, more);
+// The other is added to it.
+impl AddAssign for Counts {
+    ghost can_add_assign = { Fits };
+
+    ghost add_assign_gives = { λ c more after. after ≡ sum c more };
+
+    fn add_assign(&mut self, more: Counts) {
+        *self = *self + more;
+    }
 }

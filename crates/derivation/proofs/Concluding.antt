@@ -6,7 +6,7 @@ use Prim.Native.Nat.{ℕ, suc, ◌-◌, ◌<◌}
 use native.Mathlib.Omega.{arith}
 use lib.Dec.{eqb}
 use lib.ListN.{length, get_or, replicate}
-use Rattle.rules.specs.Limits.{VARIABLEWORDS, TERMWORDS}
+use Rattle.rules.specs.Limits.{TERMWORDS}
 use Rattle.rules.specs.Out.{Out, ok, refuse, then}
 use Rattle.rules.specs.Find.{Set, has, union, rising}
 use Rattle.rules.specs.Tree.{Tree, var, none, variables, variables_of}
@@ -24,6 +24,7 @@ use Rattle.terms.specs.Theta.{bindings}
 use Rattle.terms.specs.On.{On, Stopped, on_start, on_is, on_ok, on_no, on_pure, on_stop, on_done}
 use Rattle.terms.specs.Laws.Growth.{grown_tree, grown_there}
 use Rattle.terms.specs.Laws.Seen.{seen_none}
+use Rattle.terms.specs.Laws.Zeros.{zeros_long}
 use Rattle.terms.specs.Laws.Theta.{bindings_grown, theta_grown}
 use Rattle.state.specs.declared.sizes.Sizes.{Sizes}
 use Rattle.state.specs.Held.{Names}
@@ -99,11 +100,10 @@ module _ {K : Names} {facts footings lists : List ℕ} {n : Sizes} {I W : List �
       to_rule = record { S = g.S; n = n; trees = made J X new; footings = footings; recorded = to_refers.recorded; there = g.there }
 
       -- what `visit_cells` asks
-      pub to_cells : (seen : List ℕ) → seen ≡ replicate TERMWORDS 0 → length seen ≡ TERMWORDS → length used ≡ VARIABLEWORDS →
-          ReadableCells J X new bound seen used × Seen J X new (holds seen) (holds used)
-      to_cells seen z a b = (
-        record { good = to_done.went.grown.good; within = (theta_grown to_done.went.grown g.theta).bound; wide = a; broad = b },
-        seen_none J X new (holds used) seen (z ∙ ap (λ (k : ℕ). replicate k 0) (sym a)),
+      pub to_cells : (seen : List ℕ) → seen ≡ replicate TERMWORDS 0 → ReadableCells J X new bound × Seen J X new (holds seen) (holds used)
+      to_cells seen z = (
+        record { good = to_done.went.grown.good; within = (theta_grown to_done.went.grown g.theta).bound },
+        seen_none J X new (holds used) seen (z ∙ ap (λ (k : ℕ). replicate k 0) (sym (zeros_long TERMWORDS z))),
       )
 
       abbrev pub to_recalls : Recalls facts lists n J X new

@@ -8,7 +8,7 @@ use Prim.Native.Nat.{ℕ, ◌+◌, ◌<◌}
 use native.Mathlib.Omega.{arith}
 use lib.ListN.{length, replicate}
 use Rattle.rules.specs.Limits.{VARIABLEWORDS, FACTWORDS, RULEWORDS, TERMWORDS}
-use Rattle.rules.specs.Out.{Out, ok, refuse, then, ask}
+use Rattle.rules.specs.Out.{Out, ok, then, ask}
 use Rattle.rules.specs.Find.{Set, empty, union}
 use Rattle.rules.specs.Sexp.{Sexp, Sexps, nil, cons, count}
 use Rattle.rules.specs.Tree.{Tree, Trees, none, more, same_tree, variables, variables_of}
@@ -39,6 +39,7 @@ use Rattle.terms.specs.Laws.Sets.{holds_zero}
 use Rattle.state.specs.declared.sizes.Sizes.{Sizes}
 use Rattle.state.specs.Held.{Names}
 use Rattle.state.specs.Members.{Under}
+use Rattle.reading.specs.Laws.Walks.{then_same}
 use Rattle.referring.specs.Recall.{fact_of, Refers}
 use Rattle.referring.specs.Referral.{rests_on}
 use Rattle.derivation.specs.Applying.{rule_of, premise_numbers, met_by, RuleUse}
@@ -65,12 +66,6 @@ discharge_more S bs x ys p qs M =
     sym (then_then (substitute (along bs) p M)
     (λ t U. then (reference S x U) (λ r T. then (ask 38 (same_tree r.judgment t) T) (λ u Z. ok r Z))) (and_others S bs ys qs)
     ∙ ap (then (substitute (along bs) p M)) (λ i t U. test_then S bs x ys qs t U i))
-
--- what is answered is answered
-then_pure : (o : Out Made Refs) → then o (λ rs U. ok rs U) ≡ o
-unfolding then
-then_pure (ok a s) = refl
-then_pure (refuse n d s) = refl
 
 -- what it keeps
 pub met_keeps : (S : State) (bs : List Binding) (p : Tree) (x : Sexp) (M : Made) → Ready sound S M → Keeps sound M (λ r u. Unit {0}) (met_by S bs p x M)
@@ -145,7 +140,7 @@ module _ {K : Names} {facts footings lists : List ℕ} {n : Sizes} {I W : List �
         theta = g.theta;
         many = omega (arith, g.many);
         whole = λ rs. rs;
-        on = on_is (on_start g.refers.reads.good) (sym (then_pure _)
+        on = on_is (on_start g.refers.reads.good) (then_same _
             ∙ ap (λ (ps : Trees). then (discharge g.S (bindings (made I W m) bound 0) g.xs ps (made I W m)) (λ rs U. ok rs U))
             (sym (premise_first (premises_of g.S i))));
         rests = λ rs. ap (λ (a : Set). union a rs.hyps) (sym (empty_zero FACTWORDS _ refl));

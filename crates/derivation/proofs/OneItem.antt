@@ -3,18 +3,18 @@ use mathlib.Core.Path.{◌≡◌, refl, sym, ap, ◌∙◌, subst}
 use mathlib.Core.Bool.{Bool, true, false, ◌&&◌, true≢false}
 use mathlib.Core.List.{List}
 use Rattle.std.specs.Prelude.{Option, Some as some, None as nothing, Result}
-use Prim.Native.Nat.{ℕ, suc, ◌+◌, ◌-◌, ◌^◌, ◌<◌, ◌≤◌}
+use Prim.Native.Nat.{ℕ, suc, ◌+◌, ◌<◌, ◌≤◌}
 use native.Mathlib.Omega.{arith}
 use native.Mathlib.Numerals.{add-one}
 use lib.Dec.{eqb}
-use lib.ListN.{length, get_or, set, take, drop}
+use lib.ListN.{length, get_or, set, drop}
 use borrow.Author.Tests.{eq-eqb, ne_eqb, eqb-true}
 use Rattle.std.specs.Option.{is_some}
 use Rattle.rules.specs.Limits.{RULEVARS}
 use Rattle.rules.specs.Out.{Out, ok, then, Act, ask, found as find}
 use Rattle.rules.specs.Text.{same}
 use Rattle.rules.specs.Lex.{letters}
-use Rattle.rules.specs.Sexp.{Sexp, Sexps, atom, list, nil, cons, count, item, name, items, marked}
+use Rattle.rules.specs.Sexp.{Sexp, Sexps, atom, list, nil, cons, count, item, rest, name, items, marked}
 use Rattle.rules.specs.Find.{first}
 use Rattle.rules.specs.Tree.{Tree}
 use Rattle.rules.specs.Store.{Made}
@@ -23,12 +23,14 @@ use Rattle.rules.specs.Declare.{no_rule_var, is_new}
 use Rattle.rules.specs.State.{State}
 use Rattle.rules.specs.Read.{term_of, judgment}
 use Rattle.rules.specs.Step.{Items, bind_item, state_item, read_item}
+use Rattle.rules.specs.Laws.Sexp.{rest_none}
 use Rattle.rules.specs.Laws.Theory.{all_at}
 use Rattle.sexp.specs.Encode.{encodes}
-use Rattle.sexp.specs.Items.{Holds, Items as SomeItems, item_at}
-use Rattle.sexp.specs.ItemLaws.{More, at_inside}
-use Rattle.sexp.specs.WalkLaws.{ListIs, walk_start, walk_atom, walk_list}
-use Rattle.sexp.specs.AtomText.{atom_part}
+use Rattle.sexp.specs.Items.{Holds, Items as SomeItems, item_at, place}
+use Rattle.sexp.specs.ItemLaws.{More}
+use Rattle.sexp.specs.WalkLaws.{AtomIs}
+use Rattle.sexp.specs.Each.{ListOf}
+use Rattle.referring.specs.Laws.Behind.{from_holds}
 use Rattle.sexp.specs.FirstItem.{AtomFirst, none_left, atom_first, list_first}
 use Rattle.sexp.specs.FoundLaws.{found_at, found_missing, found_entry}
 use Rattle.sexp.specs.declared.items.Item.{Item}
@@ -38,7 +40,9 @@ use Rattle.kernel.specs.Readers.{KnownVar, NamedVars}
 use Rattle.kernel.specs.Entries.{known_var, named_vars}
 use Rattle.terms.specs.declared.store.Mark.{Mark}
 use Rattle.terms.specs.Table.{made}
+use Rattle.terms.specs.Patterns.{cells_of}
 use Rattle.terms.specs.Sets.{counted_from_1}
+use Rattle.terms.specs.Laws.Bound.{cells_long, cell_of, cells_of_set}
 use Rattle.terms.specs.On.{On, Stopped, on_start, on_is, on_ok, on_no, on_pure, on_stop, on_done, on_ask_yes, on_ask_no, on_found_some, on_found_none}
 use Rattle.state.specs.declared.sizes.Sizes.{Sizes}
 use Rattle.state.specs.Held.{Names}
@@ -86,13 +90,13 @@ module _ {K : Names} {rules rulevars : List ℕ} {n : Sizes} {I W : List ℕ} {m
     bind_names = named_vars g.S.theory g.ruled.held g.known many_are
 
     -- what its name finds among them
-    module _ {start end : ℕ} (inside : start < length K.text) (ends : end ≡ start + length (letters (drop start K.text))) {o : Option ℕ}
+    module _ (start : ℕ) {bs : List ℕ} (spelt : bs ≡ letters (drop start K.text)) {o : Option ℕ}
         (h : (T : Theory) (rows patterns : List ℕ) (known words : ℕ) → RulesHeld K.theory rows rulevars patterns known words T.rules → r < known →
-        many ≡ length (rule T r).vars → o ≡ (first (λ v. same v.name.bytes (take (end - start) (drop start K.text))) (rule T r).vars 0)) where
+        many ≡ length (rule T r).vars → o ≡ (first (λ v. same v.name.bytes bs) (rule T r).vars 0)) where
       answer : o ≡ (first (λ v. same v.name.bytes (letters (drop start K.text))) (rule g.S.theory r).vars 0)
       answer =
           h g.S.theory rules g.patterns n.rules g.ruled.words g.ruled.held g.known many_are
-          ∙ ap (λ (bs : List ℕ). (first (λ v. same v.name.bytes bs) (rule g.S.theory r).vars 0)) (atom_part K.text start end inside ends)
+          ∙ ap (λ (bs : List ℕ). (first (λ v. same v.name.bytes bs) (rule g.S.theory r).vars 0)) spelt
 
       on_bind : On I W m (bind_item g.S (rule g.S.theory r) (letters (drop start K.text)) g.x g.it (made I W m)) I W m
           (then (find 36 (looked (rule g.S.theory r) (letters (drop start K.text))) (made I W m)) (bind_from g.S (rule g.S.theory r) g.x g.it))
@@ -107,14 +111,8 @@ module _ {K : Names} {rules rulevars : List ℕ} {n : Sizes} {I W : List ℕ} {m
         bind_inside =
             (found_entry (λ (u : RuleVar). same u.name.bytes (letters (drop start K.text))) (rule g.S.theory r).vars no_rule_var o v answer f).inside
 
-        small : v < RULEVARS
-        small = omega (arith, bind_inside, few)
-
-        pub bind_small : v < length bound
-        bind_small = omega (arith, small, g.so_far.cells.long)
-
-        pub bind_narrow : length bound ≡ RULEVARS
-        bind_narrow = g.so_far.cells.long
+        pub bind_small : v < RULEVARS
+        bind_small = omega (arith, bind_inside, few)
 
         pub bind_known : KnownVar rulevars r v
         bind_known = known_var g.S.theory g.ruled.held g.known bind_inside
@@ -142,9 +140,6 @@ module _ {K : Names} {rules rulevars : List ℕ} {n : Sizes} {I W : List ℕ} {m
             read : TermRead I W J X m (term_of g.S g.x (get_or (rule g.S.theory r).vars v no_rule_var).sort (made I W m)) id new
             read = subst (λ (z : ℕ). TermRead I W J X m (term_of g.S g.x z (made I W m)) id new) sorted (t bind_given)
 
-            pub bind_fits : id + 1 < 2 ^ 32
-            bind_fits = omega (arith, read.there, read.went.grown.good.room)
-
             -- bound already
             pub bind_twice : (get_or bound v 0 ≡ 0 → ⊥) →
                 Stopped I W J X m (bind_item g.S (rule g.S.theory r) (letters (drop start K.text)) g.x g.it (made I W m)) 36 0 new
@@ -155,7 +150,17 @@ module _ {K : Names} {rules rulevars : List ℕ} {n : Sizes} {I W : List ℕ} {m
             bind_done z =
                 items_read
                 (on_done (on_ask_yes _ 36 (on_ok _ on_found read.went) (held_new g.so_far v ∙ eq-eqb (get_or bound v 0) 0 z)))
-                (held_bound (held_grown g.so_far read.went.grown) id read.there v small z)
+                (held_bound (held_grown g.so_far read.went.grown) id read.there v bind_small z)
+
+-- the cells of what is said
+module _ (O : List (Option ℕ)) (v : ℕ) where
+  pub said_cell : (d : Option ℕ) {I W : List ℕ} {m : Mark} {stated : ℕ} {it : Items} → ItemsHeld I W m (cells_of O) stated it → v < RULEVARS
+      → get_or (cells_of O) v 0 ≡ counted_from_1 (get_or O v d)
+  said_cell d k l = cell_of O v d (omega (arith, l, cells_long O, k.cells.long))
+
+  pub said_bound : (id : ℕ) {I W J X : List ℕ} {m new : Mark} {K' : Out Made Items} {stated : ℕ} →
+      ItemsRead I W J X m K' (set (cells_of O) v (id + 1)) stated new → ItemsRead I W J X m K' (cells_of (set O v (some id))) stated new
+  said_bound id {I} {W} {J} {X} {m} {new} {K'} {stated} r = subst (λ (B : List ℕ). ItemsRead I W J X m K' B stated new) (sym (cells_of_set O v id)) r
 
 -- what is stated, by its number with 1 added
 pub some_stated : (o : Option ℕ) {b : Bool} → b ≡ is_some o → b ≡ true → counted_from_1 o ≡ 0 → ⊥
@@ -217,71 +222,79 @@ second_item x y ys = refl
 
 module _ {K : Names} {rules rulevars : List ℕ} {n : Sizes} {I W : List ℕ} {m : Mark} {r : ℕ} {cells bound : List ℕ} {stated : ℕ}
     (g : RuleItem K rules rulevars n I W m r cells bound stated) where
-  pub item_cell : 0 < length cells
-  item_cell = at_inside (walk_start g.holds).here
+  pub item_atom_lem : (p : ℕ) × AtomIs K.text g.x p → Stopped I W I W m (read_item g.S (rule g.S.theory r) g.x g.it (made I W m)) 22 0 m
+  unfolding read_item items
+  item_atom_lem p = on_stop _ (on_start g.reads.good) (ap (λ (z : Sexp). items 22 z (made I W m)) p.1.is)
 
-  -- the item
-  module _ {thing : Item} (e : thing ≡ item_at cells 0) where
-    pub item_atom_lem : {p : ℕ} → thing ≡ Atom p → Stopped I W I W m (read_item g.S (rule g.S.theory r) g.x g.it (made I W m)) 22 0 m
-    unfolding read_item items
-    item_atom_lem f = on_stop _ (on_start g.reads.good) (ap (λ (z : Sexp). items 22 z (made I W m)) (walk_atom (walk_start g.holds) e f).is)
+  -- the cells of its items
+  module _ {part : List ℕ} (l : ListOf K.text cells g.x part) where
+    -- a list whose first item is no atom
+    unnamed : (ys : Sexps) → g.x ≡ list ys → name {S = Made} 22 (item ys 0) (made I W m) ≡ name {S = Made} 22 (list nil) (made I W m) →
+        Stopped I W I W m (read_item g.S (rule g.S.theory r) g.x g.it (made I W m)) 22 0 m
+    unfolding read_item items name
+    unnamed ys i d = on_stop _ (on_pure _ (on_start g.reads.good) (ap (λ (z : Sexp). items 22 z (made I W m)) i)) d
 
-    module _ {a b : ℕ} (f : thing ≡ Part a b) where
-      pub item_list : ListIs K.text cells g.x a b
-      item_list = walk_list (walk_start g.holds) e f
+    pub item_empty_lem : length part ≡ 0 → Stopped I W I W m (read_item g.S (rule g.S.theory r) g.x g.it (made I W m)) 22 0 m
+    unfolding item
+    item_empty_lem z = unnamed nil (l.is ∙ ap list (none_left l.holds z)) refl
 
-      -- a list whose first item is no atom
-      unnamed : (ys : Sexps) → g.x ≡ list ys → name {S = Made} 22 (item ys 0) (made I W m) ≡ name {S = Made} 22 (list nil) (made I W m) →
-          Stopped I W I W m (read_item g.S (rule g.S.theory r) g.x g.it (made I W m)) 22 0 m
-      unfolding read_item items name
-      unnamed ys i d = on_stop _ (on_pure _ (on_start g.reads.good) (ap (λ (z : Sexp). items 22 z (made I W m)) i)) d
+    -- its first item
+    module _ (left : length part ≡ 0 → ⊥) {head : Item} (h : head ≡ item_at part 0) where
+      pub item_nested : {c d : ℕ} → head ≡ Part c d → Stopped I W I W m (read_item g.S (rule g.S.theory r) g.x g.it (made I W m)) 22 0 m
+      unfolding item name
+      item_nested k =
+          let d = list_first l.holds left h k in
+          unnamed (cons (list d.inner) d.others) (l.is ∙ ap list d.is) refl
 
-      pub item_empty_lem : length (take (b - a) (drop a cells)) ≡ 0 → Stopped I W I W m (read_item g.S (rule g.S.theory r) g.x g.it (made I W m)) 22 0 m
-      unfolding item
-      item_empty_lem z = unnamed nil (item_list.is ∙ ap list (none_left item_list.holds z)) refl
+      module _ {p : ℕ} (k : head ≡ Atom p) where
+        pub item_named : AtomFirst K.text part l.items p
+        item_named = atom_first l.holds left h k
 
-      -- its first item
-      module _ (l : length (take (b - a) (drop a cells)) ≡ 0 → ⊥) {head : Item} (h : head ≡ item_at (take (b - a) (drop a cells)) 0) where
-        pub item_nested : {c d : ℕ} → head ≡ Part c d → Stopped I W I W m (read_item g.S (rule g.S.theory r) g.x g.it (made I W m)) 22 0 m
-        unfolding item name
-        item_nested k =
-            let d = list_first item_list.holds l h k in
-            unnamed (cons (list d.inner) d.others) (item_list.is ∙ ap list d.is) refl
+        pub binds_given : SomeItems part × (p < length K.text)
+        binds_given = ((l.items, l.holds.cells), item_named.inside)
 
-        module _ {p : ℕ} (k : head ≡ Atom p) where
-          pub item_named : AtomFirst K.text (take (b - a) (drop a cells)) item_list.items p
-          item_named = atom_first item_list.holds l h k
+        abbrev all : Sexps
+        all = cons (atom p (letters (drop p K.text))) item_named.others
 
-          pub binds_given : SomeItems (take (b - a) (drop a cells)) × (p < length K.text)
-          binds_given = ((item_list.items, item_list.holds.cells), item_named.inside)
+        is_all : g.x ≡ list all
+        is_all = l.is ∙ ap list item_named.is
 
-          abbrev all : Sexps
-          all = cons (atom p (letters (drop p K.text))) item_named.others
+        -- y says whether it is a binding
+        module _ (y : Bool) (c : (xs : Sexps) → part ≡ encodes xs → y ≡ marked (letters (drop p K.text)) && eqb (count xs) 2) where
+          says : y ≡ marked (letters (drop p K.text)) && eqb (count all) 2
+          says = c all (l.holds.cells ∙ ap encodes item_named.is)
 
-          is_all : g.x ≡ list all
-          is_all = item_list.is ∙ ap list item_named.is
+          picks : read_item g.S (rule g.S.theory r) g.x g.it (made I W m)
+              ≡ pick g.S (rule g.S.theory r) g.x g.it (letters (drop p K.text)) all y (made I W m)
+          picks =
+              subst (λ (z : Sexp). read_item g.S (rule g.S.theory r) z g.it (made I W m)
+              ≡ pick g.S (rule g.S.theory r) z g.it (letters (drop p K.text)) all (marked (letters (drop p K.text)) && eqb (count all) 2) (made I W m))
+              (sym is_all) (pick_is g.S (rule g.S.theory r) g.it (made I W m) p (letters (drop p K.text)) item_named.others)
+              ∙ ap (λ (z : Bool). pick g.S (rule g.S.theory r) g.x g.it (letters (drop p K.text)) all z (made I W m)) (sym says)
 
-          -- y says whether it is a binding
-          module _ (y : Bool) (c : (xs : Sexps) → take (b - a) (drop a cells) ≡ encodes xs → y ≡ marked (letters (drop p K.text)) && eqb (count xs) 2) where
-            says : y ≡ marked (letters (drop p K.text)) && eqb (count all) 2
-            says = c all (item_list.holds.cells ∙ ap encodes item_named.is)
+          -- a binding
+          module _ (yes : y ≡ true) where
+            pub one_more_lem : More item_named.others
+            one_more_lem = second (atom p (letters (drop p K.text))) item_named.others
+                (eqb-true (count all) 2 (and_parts (marked (letters (drop p K.text))) (eqb (count all) 2) (sym says ∙ yes)).1)
 
-            picks : read_item g.S (rule g.S.theory r) g.x g.it (made I W m)
-                ≡ pick g.S (rule g.S.theory r) g.x g.it (letters (drop p K.text)) all y (made I W m)
-            picks =
-                subst (λ (z : Sexp). read_item g.S (rule g.S.theory r) z g.it (made I W m)
-                ≡ pick g.S (rule g.S.theory r) z g.it (letters (drop p K.text)) all (marked (letters (drop p K.text)) && eqb (count all) 2) (made I W m))
-                (sym is_all) (pick_is g.S (rule g.S.theory r) g.it (made I W m) p (letters (drop p K.text)) item_named.others)
-                ∙ ap (λ (z : Bool). pick g.S (rule g.S.theory r) g.x g.it (letters (drop p K.text)) all z (made I W m)) (sym says)
+            binding_is : read_item g.S (rule g.S.theory r) g.x g.it (made I W m)
+                ≡ bind_item g.S (rule g.S.theory r) (letters (drop p K.text)) one_more_lem.first g.it (made I W m)
+            binding_is =
+                picks
+                ∙ ap (λ (z : Bool). pick g.S (rule g.S.theory r) g.x g.it (letters (drop p K.text)) all z (made I W m)) yes
+                ∙ ap (λ (z : Sexp). bind_item g.S (rule g.S.theory r) (letters (drop p K.text)) z g.it (made I W m))
+                (ap (λ (zs : Sexps). item (cons (atom p (letters (drop p K.text))) zs) 1) one_more_lem.is
+                ∙ second_item (atom p (letters (drop p K.text))) one_more_lem.first one_more_lem.others)
 
-            -- a binding
-            module _ (yes : y ≡ true) where
-              pub one_more_lem : More item_named.others
-              one_more_lem = second (atom p (letters (drop p K.text))) item_named.others
-                  (eqb-true (count all) 2 (and_parts (marked (letters (drop p K.text))) (eqb (count all) 2) (sym says ∙ yes)).1)
+            -- the items behind the first
+            module _ {behind : List ℕ} (e : (ys : Sexps) → part ≡ encodes ys → behind ≡ drop (place ys 1) part) where
+              pub others_hold : Holds K.text behind (cons one_more_lem.first one_more_lem.others)
+              unfolding rest
+              others_hold =
+                  subst (Holds K.text behind) (ap (λ (zs : Sexps). rest zs 1) item_named.is ∙ rest_none item_named.others ∙ one_more_lem.is) (from_holds l.holds 1 e)
 
-              abbrev pub item_given : RuleItem K rules rulevars n I W m r
-                  (take (length (take (b - a) (drop a cells)) - 1) (drop 1 (take (b - a) (drop a cells)))) bound stated
+              abbrev pub item_given : RuleItem K rules rulevars n I W m r behind bound stated
               item_given =
                   record {
                     S = g.S;
@@ -293,35 +306,25 @@ module _ {K : Names} {rules rulevars : List ℕ} {n : Sizes} {I W : List ℕ} {m
                     ruled = g.ruled;
                     known = g.known;
                     so_far = g.so_far;
-                    holds = subst (λ (z : Sexps). Holds K.text (take (length (take (b - a) (drop a cells)) - 1) (drop 1 (take (b - a) (drop a cells)))) z)
-                        one_more_lem.is item_named.rest;
+                    holds = others_hold;
                   }
 
-              binding_is : read_item g.S (rule g.S.theory r) g.x g.it (made I W m)
-                  ≡ bind_item g.S (rule g.S.theory r) (letters (drop p K.text)) one_more_lem.first g.it (made I W m)
-              binding_is =
-                  picks
-                  ∙ ap (λ (z : Bool). pick g.S (rule g.S.theory r) g.x g.it (letters (drop p K.text)) all z (made I W m)) yes
-                  ∙ ap (λ (z : Sexp). bind_item g.S (rule g.S.theory r) (letters (drop p K.text)) z g.it (made I W m))
-                  (ap (λ (zs : Sexps). item (cons (atom p (letters (drop p K.text))) zs) 1) one_more_lem.is
-                  ∙ second_item (atom p (letters (drop p K.text))) one_more_lem.first one_more_lem.others)
-
               pub item_bound : (J X : List ℕ) (new : Mark) (before said : Said) (o : Result (Unit {0}) Question) →
-                  ((q : RuleItem K rules rulevars n I W m r (take (length (take (b - a) (drop a cells)) - 1) (drop 1 (take (b - a) (drop a cells)))) bound stated) →
+                  ((q : RuleItem K rules rulevars n I W m r behind bound stated) →
                   ItemBy I W J X m new (bind_item q.S (rule q.S.theory r) (letters (drop p K.text)) q.x q.it (made I W m)) before said o) →
                   ItemBy I W J X m new (read_item g.S (rule g.S.theory r) g.x g.it (made I W m)) before said o
               item_bound J X new before said o q = subst (λ (Q : Out Made Items). ItemBy I W J X m new Q before said o) (sym binding_is) (q item_given)
 
-            -- the conclusion
-            module _ (no : y ≡ false) where
-              conclusion_is : read_item g.S (rule g.S.theory r) g.x g.it (made I W m) ≡ state_item g.S g.x g.it (made I W m)
-              conclusion_is = picks ∙ ap (λ (z : Bool). pick g.S (rule g.S.theory r) g.x g.it (letters (drop p K.text)) all z (made I W m)) no
+          -- the conclusion
+          module _ (no : y ≡ false) where
+            conclusion_is : read_item g.S (rule g.S.theory r) g.x g.it (made I W m) ≡ state_item g.S g.x g.it (made I W m)
+            conclusion_is = picks ∙ ap (λ (z : Bool). pick g.S (rule g.S.theory r) g.x g.it (letters (drop p K.text)) all z (made I W m)) no
 
-              abbrev concluding : ReadsItem K n I W m cells
-              concluding = record { S = g.S; x = g.x; ys = g.ys; reads = g.reads; holds = g.holds }
+            abbrev concluding : ReadsItem K n I W m cells
+            concluding = record { S = g.S; x = g.x; ys = g.ys; reads = g.reads; holds = g.holds }
 
-              pub item_stated : (J X : List ℕ) (new : Mark) (before said : Said) (o : Result (Unit {0}) Question) →
-                  ((q : ReadsItem K n I W m cells) (it : Items) → ItemsHeld I W m bound stated it → ItemBy I W J X m new (state_item q.S q.x it (made I W m)) before said o) →
-                  ItemBy I W J X m new (read_item g.S (rule g.S.theory r) g.x g.it (made I W m)) before said o
-              item_stated J X new before said o q =
-                  subst (λ (Q : Out Made Items). ItemBy I W J X m new Q before said o) (sym conclusion_is) (q concluding g.it g.so_far)
+            pub item_stated : (J X : List ℕ) (new : Mark) (before said : Said) (o : Result (Unit {0}) Question) →
+                ((q : ReadsItem K n I W m cells) (it : Items) → ItemsHeld I W m bound stated it → ItemBy I W J X m new (state_item q.S q.x it (made I W m)) before said o) →
+                ItemBy I W J X m new (read_item g.S (rule g.S.theory r) g.x g.it (made I W m)) before said o
+            item_stated J X new before said o q =
+                subst (λ (Q : Out Made Items). ItemBy I W J X m new Q before said o) (sym conclusion_is) (q concluding g.it g.so_far)

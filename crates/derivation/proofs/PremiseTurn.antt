@@ -1,11 +1,11 @@
 -- One turn of the loop over the premises of a rule: the reference of one more is read, and what it brings joins the sets. Assumes nothing.
-use mathlib.Core.Path.{◌≡◌, sym, ap, ◌∙◌}
+use mathlib.Core.Path.{◌≡◌, sym, ap, ◌∙◌, subst}
 use mathlib.Core.Bool.{Bool}
 use mathlib.Core.List.{List}
-use Prim.Native.Nat.{ℕ, suc, ◌+◌, ◌-◌, ◌<◌, ◌≤◌}
+use Prim.Native.Nat.{ℕ, suc, ◌+◌, ◌<◌, ◌≤◌}
 use native.Mathlib.Omega.{arith}
 use native.Mathlib.Numerals.{add-one}
-use lib.ListN.{length, get_or, take, drop}
+use lib.ListN.{length, get_or}
 use Rattle.rules.specs.Out.{Out, ok, then}
 use Rattle.rules.specs.Find.{has, union}
 use Rattle.rules.specs.Sexp.{Sexps, cons}
@@ -20,7 +20,9 @@ use Rattle.rules.specs.Laws.Out.{then_then}
 use Rattle.rules.specs.Laws.Set.{union_empty}
 use Rattle.rules.specs.Laws.Rising.{has_all}
 use Rattle.rules.specs.Laws.Tree.{variables_more}
-use Rattle.sexp.specs.Items.{item_at, behind}
+use Rattle.sexp.specs.Items.{Holds}
+use Rattle.sexp.specs.Each.{Here}
+use Rattle.sexp.specs.declared.items.Each.{Each}
 use Rattle.sexp.specs.WalkLaws.{walk_over}
 use Rattle.terms.specs.declared.store.Mark.{Mark}
 use Rattle.terms.specs.Table.{made, tree}
@@ -39,7 +41,7 @@ use Rattle.referring.specs.Recall.{fact_of, RecallsFact, Refers, RefersItem}
 use Rattle.referring.specs.Referral.{rests_on, ref_of, RefRead}
 use Rattle.derivation.specs.Applying.{RuleFact, premise_numbers, met_by, Discharged}
 use Rattle.referring.specs.Laws.Refers.{refers_ready, refers_went}
-use Rattle.reading.specs.Laws.Walks.{Here, here, walk_next}
+use Rattle.reading.specs.Laws.Walks.{Here as Item, here, walk_next}
 use Rattle.derivation.proofs.RulePremises.{premises_numbered, drop_trees, premise_below, premise_next}
 use Rattle.derivation.proofs.Discharging.{and_others, discharge_more, met_keeps, under_union, union_more, rests_all, premises_of, Left}
 use Rattle.sexp.specs.FirstItem.{count_more}
@@ -71,9 +73,9 @@ module _ {K : Names} {facts footings lists : List ℕ} {n : Sizes} {I W : List �
 
   -- One premise ------------------------------------------------------------------------------------------------------------------------
 
-  module _ (t : at < length cells) where
-    pub one : Here K.text cells at l.zs
-    one = here l.walk t
+  module _ {part : List ℕ} {next : Each} (w : Here cells part at next) where
+    pub one : Item K.text cells at l.zs
+    one = here l.walk w.inside
 
     pub left_inside : k < length (premise_numbers facts lists i)
     left_inside = omega (arith, l.many, count_more one.x one.ys l.zs one.is)
@@ -84,8 +86,17 @@ module _ {K : Names} {facts footings lists : List ℕ} {n : Sizes} {I W : List �
     left_numbered : AllNumbered (made J X now) (premises_of S i) (premise_numbers facts lists i)
     left_numbered = premises_numbered l.refers.recorded l.there
 
-    abbrev pub left_given : RefersItem K facts n J X now (take (length cells - at) (drop at cells))
-    left_given = record { S = S; footings = footings; lists = lists; x = one.x; ys = one.ys; refers = l.refers; holds = one.holds }
+    abbrev pub left_given : RefersItem K facts n J X now part
+    left_given =
+        record {
+          S = S;
+          footings = footings;
+          lists = lists;
+          x = one.x;
+          ys = one.ys;
+          refers = l.refers;
+          holds = subst (λ z. Holds K.text z (cons one.x one.ys)) (sym w.is) one.holds;
+        }
 
     pub left_theta : Theta now bound
     left_theta = theta_grown l.on.grown l.theta
@@ -119,12 +130,12 @@ module _ {K : Names} {facts footings lists : List ℕ} {n : Sizes} {I W : List �
 
       -- what `met` answers
       module _ (Y Z : List ℕ) {new : Mark} where
-        pub left_refused : {a d : ℕ} → ((h : RefersItem K facts n J X now (take (length cells - at) (drop at cells))) →
+        pub left_refused : {a d : ℕ} → ((h : RefersItem K facts n J X now part) →
             Stopped J X Y Z now (met_by h.S (bindings (made J X now) bound 0) (tree J X now p) h.x (made J X now)) a d new) →
             Stopped I W Y Z old left_all a d new
         left_refused q = on_no _ on_one (q left_given)
 
-        module _ {j f : ℕ} {bare : Bool} (q : (h : RefersItem K facts n J X now (take (length cells - at) (drop at cells))) →
+        module _ {j f : ℕ} {bare : Bool} (q : (h : RefersItem K facts n J X now part) →
             RefRead J X Y Z now h.S (met_by h.S (bindings (made J X now) bound 0) (tree J X now p) h.x (made J X now)) j f bare new) where
           left_read : RefRead J X Y Z now S (met_by S (bindings (made J X now) bound 0) (tree J X now p) one.x (made J X now)) j f bare new
           left_read = q left_given
@@ -167,12 +178,11 @@ module _ {K : Names} {facts footings lists : List ℕ} {n : Sizes} {I W : List �
                 ∙ ap (λ (h : ℕ). then (discharge S (bindings (made I W old) bound 0) one.ys (drop_trees h (premises_of S i)) (made Y Z new)) (λ rs T. ok (l.whole (with_ref this rs)) T))
                 (sym (add-one k)))
 
-            pub left_again : {next : ℕ} → next ≡ behind at (item_at cells at) →
-                Left K facts footings lists n I W old i cells bound S xs Y Z new hyps' footing' used' seen' (k + 1) next
-            left_again b =
+            pub left_again : Left K facts footings lists n I W old i cells bound S xs Y Z new hyps' footing' used' seen' (k + 1) next.at
+            left_again =
                 record {
                   zs = one.ys;
-                  walk = walk_next one.walk b;
+                  walk = walk_next one.walk w.behind;
                   refers = left_refers;
                   there = l.there;
                   theta = l.theta;

@@ -2,19 +2,18 @@
 use mathlib.Core.Path.{◌≡◌, refl, sym, ap, ◌∙◌, subst}
 use mathlib.Core.Bool.{Bool, true, false, true≢false}
 use Rattle.std.specs.Prelude.{Option, Some as some, None as nothing}
-use mathlib.Core.List.{List}
-use Prim.Native.Nat.{ℕ, suc}
+use mathlib.Core.List.{List, [], ◌∷◌}
+use Prim.Native.Nat.{ℕ, suc, ◌<◌}
 use native.Mathlib.Omega.{arith}
 use lib.ListN.{length, get_or}
-use Rattle.std.specs.Option.{is_some}
 use Rattle.rules.specs.Out.{Out, then, found}
-use Rattle.rules.specs.Tree.{Tree, var}
+use Rattle.rules.specs.Tree.{Tree, var, none, more, count_trees}
 use Rattle.rules.specs.Store.{Made}
-use Rattle.rules.specs.Match.{Bound, match_all, build}
+use Rattle.rules.specs.Match.{Bound, and_then, matches, match_all, build}
 use Rattle.rules.specs.Step.{match_stated, conclude}
 use Rattle.terms.specs.declared.store.Mark.{Mark}
 use Rattle.terms.specs.Table.{made, args_of}
-use Rattle.terms.specs.Patterns.{tree_in, bound_of, Stands, Cells, Builds, Stops, Matchable, AllMatchable, Buildable, Matched, matched, other, AllMatched, all, not_all, MatchedAt, MatchedAll}
+use Rattle.terms.specs.Patterns.{tree_in, bound_of, Stands, Cells, Builds, Stops, AllMatchable, Buildable, AllMatched, all, not_all, MatchedAll}
 use Rattle.terms.specs.On.{On, Stopped, on_start, on_is, on_done, on_went, on_stopped, on_found_some, on_found_none, builds_went, stops_stopped}
 use Rattle.terms.specs.Laws.Growth.{made_length}
 use Rattle.reading.specs.Answers.{TermRead}
@@ -31,10 +30,14 @@ module _ {M : Made} {B C : List ℕ} {K : Option Bound} where
   all_no (all e c f) q = absurd (true≢false (sym f ∙ q))
   all_no (not_all e c f) q = e
 
-  -- what is stated is matched as one term is
-  matched_all : {behind : ℕ} {r : Option ℕ} → Matched M B C K behind r → {L : Option Bound} → L ≡ K → {b : Bool} → b ≡ is_some r → AllMatched M B C L b
-  matched_all (matched e c f) l k = all (l ∙ e) c (k ∙ ap is_some f)
-  matched_all (other e c f) l k = not_all (l ∙ e) c (k ∙ ap is_some f)
+  -- of one pattern
+  matched_one : {b : Bool} → AllMatched M B C (and_then K (λ c. some c)) b → AllMatched M B C K b
+  unfolding and_then
+  matched_one {b} h = subst (λ (L : Option Bound). AllMatched M B C L b) (only K) h
+    where
+      only : (o : Option Bound) → and_then o (λ c. some c) ≡ o
+      only nothing = refl
+      only (some c) = refl
 
 -- so many terms are made
 cells_made : (I W : List ℕ) (m : Mark) {C : List ℕ} → Cells (length (made I W m)) C → Cells m.terms C
@@ -53,14 +56,27 @@ tree_in_none M e = ap (tree_in M) e
 module _ {S P I W : List ℕ} {m : Mark} {B : List ℕ} {place stated : ℕ} (g : StatedMatchable S P I W m B place stated) where
   -- one is
   module _ {id : ℕ} (e : stated ≡ suc id) where
-    pub stated_matchable : Matchable S P I W m B place id
-    stated_matchable = record { good = g.good; symbols = g.symbols; reads = g.reads; cells = g.cells; there = omega (arith, g.known) }
+    pub stated_small : id < m.terms
+    stated_small = omega (arith, g.known)
 
-    pub stated_matched : {C : List ℕ} {r : Option ℕ} {b : Bool} → MatchedAt S P I W m B C place id r → b ≡ is_some r →
+    pub stated_matchable : AllMatchable S P I W m B place (id ∷ [])
+    unfolding Stands count_trees
+    stated_matchable =
+        record {
+          good = g.good;
+          symbols = g.symbols;
+          reads = record { patterns = more g.reads.tree none; stands = (g.reads.stands, tt); count = refl };
+          cells = g.cells;
+          there = λ k h. let z : k ≡ 0 = omega arith in subst (λ (j : ℕ). get_or (id ∷ []) j 0 < m.terms) (sym z) stated_small;
+        }
+
+    pub stated_matched : {C : List ℕ} {b : Bool} → MatchedAll S P I W m B C place (id ∷ []) b →
         (p : Tree) → Stands S P place p → AllMatched (made I W m) B C (match_stated p (tree_in (made I W m) stated) (bound_of (made I W m) B)) b
-    unfolding match_stated
-    stated_matched a k p w =
-        matched_all (a p w) (ap (λ (o : Option Tree). match_stated p o (bound_of (made I W m) B)) (tree_in_some (made I W m) id e)) k
+    unfolding match_stated Stands count_trees matches args_of
+    stated_matched {C} {b} a p w =
+        subst (λ (K : Option Bound). AllMatched (made I W m) B C K b)
+        (sym (ap (λ (o : Option Tree). match_stated p o (bound_of (made I W m) B)) (tree_in_some (made I W m) id e)))
+        (matched_one (a (more p none) (w, tt) refl))
 
   -- none is
   pub stated_none : stated ≡ 0 → (p : Tree) → Stands S P place p →

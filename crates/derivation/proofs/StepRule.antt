@@ -3,13 +3,13 @@ use mathlib.Core.Path.{◌≡◌, sym, ap, ◌∙◌, subst}
 use mathlib.Core.Logic.{⊎_elim}
 use mathlib.Core.Bool.{false}
 use mathlib.Core.List.{List, [], ◌∷◌}
-use Prim.Native.Nat.{ℕ, ◌-◌, ◌<◌, ◌≤◌}
+use Prim.Native.Nat.{ℕ, ◌<◌, ◌≤◌}
 use native.Mathlib.Omega.{arith}
 use lib.Dec.{eqb}
-use lib.ListN.{length, take, drop, length-append}
+use lib.ListN.{length, take, length-append}
 use lib.Seq.{take-length}
 use borrow.Author.Tests.{eqb-true, eq-eqb, ne_eqb}
-use Rattle.rules.specs.Limits.{PATTERNS, FACTWORDS}
+use Rattle.rules.specs.Limits.{PATTERNS}
 use Rattle.rules.specs.Out.{Out, ok, then, ask}
 use Rattle.rules.specs.Find.{Set, has, union, rising}
 use Rattle.rules.specs.Sexp.{Sexp, Sexps, count, item, rest, items}
@@ -23,11 +23,8 @@ use Rattle.rules.specs.Laws.Prefix.{prefixes_length}
 use Rattle.rules.specs.Laws.Rising.{or_cases}
 use Rattle.rules.proofs.Laws.StepWalk.{references_keeps}
 use Rattle.sexp.specs.Encode.{encodes}
-use Rattle.sexp.specs.Items.{item_of, place}
-use Rattle.sexp.specs.WalkLaws.{ListIs}
-use Rattle.sexp.specs.NthItem.{nth_text, nth_part}
-use Rattle.sexp.specs.declared.items.Item.{Item}
-use Rattle.sexp.specs.declared.items.Item.TheVariants.{Atom, List as Part}
+use Rattle.sexp.specs.WalkLaws.{AtomIs}
+use Rattle.sexp.specs.Each.{ListOf}
 use Rattle.kernel.specs.Readers.{KnownRule}
 use Rattle.kernel.specs.RuleRows.{words_inside}
 use Rattle.terms.specs.declared.store.Mark.{Mark}
@@ -121,125 +118,121 @@ module _ {K : Names} {rules rulevars patterns facts footings lists : List ℕ} {
 
   -- The references -----------------------------------------------------------------------------------------------------------------------
 
-  module _ {thing : Item} (a : (ys : Sexps) → cells ≡ encodes ys → thing ≡ item_of (place ys 3) (item ys 3)) where
-    pub by_atom : {p : ℕ} → thing ≡ Atom p → Stopped I W I W m whole 37 0 m
+  pub by_atom : (p : ℕ) × AtomIs K.text (item g.xs 3) p → Stopped I W I W m whole 37 0 m
+  unfolding items
+  by_atom p = on_stop second on_first (ap (λ (x : Sexp). items 37 x (made I W m)) p.1.is)
+
+  -- part: the cells of the references
+  module _ {part : List ℕ} (l : ListOf K.text cells (item g.xs 3) part) where
+    on_second : On I W m whole I W m (second l.items (made I W m))
     unfolding items
-    by_atom f = on_stop second on_first (ap (λ (x : Sexp). items 37 x (made I W m)) (nth_text g.holds 3 a f).is)
+    on_second = on_pure second on_first (ap (λ (x : Sexp). items 37 x (made I W m)) l.is)
 
-    module _ {start end : ℕ} (f : thing ≡ Part start end) where
-      pub by_part : ListIs K.text cells (item g.xs 3) start end
-      by_part = nth_part g.holds 3 a (omega (arith, g.many)) f
+    module _ {k v : ℕ} (c : (ys : Sexps) → part ≡ encodes ys → k ≡ count ys) (p : PremisesOf rules r v) where
+      counted : k ≡ count l.items
+      counted = c l.items l.holds.cells
 
-      on_second : On I W m whole I W m (second by_part.items (made I W m))
-      unfolding items
-      on_second = on_pure second on_first (ap (λ (x : Sexp). items 37 x (made I W m)) by_part.is)
+      pub wanted : v ≡ count_trees (rule g.S.theory r).premises
+      wanted = by_premises p
 
-      module _ {k v : ℕ} (c : (ys : Sexps) → take (end - start) (drop start cells) ≡ encodes ys → k ≡ count ys) (p : PremisesOf rules r v) where
-        counted : k ≡ count by_part.items
-        counted = c by_part.items by_part.holds.cells
+      pub by_count : (k ≡ v → ⊥) → Stopped I W I W m whole 37 0 m
+      by_count q = on_ask_no _ 37 on_second (ne_eqb _ _ (λ z. q (counted ∙ z ∙ sym wanted)))
 
-        pub wanted : v ≡ count_trees (rule g.S.theory r).premises
-        wanted = by_premises p
+      module _ (e : k ≡ v) where
+        on_third : On I W m whole I W m (then (references g.S l.items (made I W m)) third)
+        on_third = on_ask_yes _ 37 on_second (eq-eqb _ _ (sym counted ∙ e ∙ wanted))
 
-        pub by_count : (k ≡ v → ⊥) → Stopped I W I W m whole 37 0 m
-        by_count q = on_ask_no _ 37 on_second (ne_eqb _ _ (λ z. q (counted ∙ z ∙ sym wanted)))
+        abbrev pub by_given : FactForm K facts footings lists n I W m part 0
+        by_given = record { S = g.S; xs = l.items; refers = g.refers; holds = l.holds; many = omega arith }
 
-        module _ (e : k ≡ v) where
-          on_third : On I W m whole I W m (then (references g.S by_part.items (made I W m)) third)
-          on_third = on_ask_yes _ 37 on_second (eq-eqb _ _ (sym counted ∙ e ∙ wanted))
+        pub by_refused : {J X : List ℕ} {new : Mark} {c d : ℕ} → ((h : FactForm K facts footings lists n I W m part 0) →
+            Stopped I W J X m (references h.S h.xs (made I W m)) c d new) → Stopped I W J X m whole c d new
+        by_refused q = on_no third on_third (q by_given)
 
-          abbrev pub by_given : FactForm K facts footings lists n I W m (take (end - start) (drop start cells)) 0
-          by_given = record { S = g.S; xs = by_part.items; refers = g.refers; holds = by_part.holds; many = omega arith }
+        -- what the references bring: in ids, hyps and footing
+        module _ {J X ids hyps footing : List ℕ} {instances : ℕ} {new : Mark} (q : (h : FactForm K facts footings lists n I W m part 0) →
+            RefsRead I W J X m h.S (references h.S h.xs (made I W m)) ids hyps footing (count h.xs) instances new) where
+          pub refs : RefsRead I W J X m g.S (references g.S l.items (made I W m)) ids hyps footing (count l.items) instances new
+          refs = q by_given
 
-          pub by_refused : {J X : List ℕ} {new : Mark} {c d : ℕ} → ((h : FactForm K facts footings lists n I W m (take (end - start) (drop start cells)) 0) →
-              Stopped I W J X m (references h.S h.xs (made I W m)) c d new) → Stopped I W J X m whole c d new
-          by_refused q = on_no third on_third (q by_given)
+          pub after : Refers K facts footings lists n J X new g.S
+          after = refers_went g.refers (references_keeps g.S l.items (made I W m) g.refers.recorded.trees) refs.went
 
-          -- what the references bring: in ids, hyps and footing
-          module _ {J X ids hyps footing : List ℕ} {instances : ℕ} {new : Mark} (q : (h : FactForm K facts footings lists n I W m (take (end - start) (drop start cells)) 0) →
-              RefsRead I W J X m h.S (references h.S h.xs (made I W m)) ids hyps footing (count h.xs) instances new) where
-            pub refs : RefsRead I W J X m g.S (references g.S by_part.items (made I W m)) ids hyps footing (count by_part.items) instances new
-            refs = q by_given
+          module _ (b : length ids ≡ v) where
+            pub filled : length ids ≡ count l.items
+            filled = b ∙ sym e ∙ counted
 
-            pub after : Refers K facts footings lists n J X new g.S
-            after = refers_went g.refers (references_keeps g.S by_part.items (made I W m) g.refers.recorded.trees) refs.went
+            abbrev pub by_scopes : Scopes K (rule_lists K.theory rules rulevars patterns) facts lists n J X new r cells ids hyps
+            by_scopes =
+                record {
+                  S = g.S;
+                  xs = g.xs;
+                  footings = footings;
+                  refers = after;
+                  ruled = g.ruled;
+                  known = known;
+                  holding = g.holds;
+                  many = sym (b ∙ wanted);
+                  there = λ i l. refs.there i (omega (arith, l, filled));
+                  earlier = refs.earlier;
+                }
 
-            module _ (b : length ids ≡ v) where
-              pub filled : length ids ≡ count by_part.items
-              filled = b ∙ sym e ∙ counted
+            -- the terms of the references, and what they rest on
+            judged : args_of (made J X new) ids ≡ refs.refs.judgments
+            judged =
+                ap (args_of (made J X new)) (sym (take-length ids)) ∙ ap (λ (i : ℕ). args_of (made J X new) (take i ids)) filled ∙ refs.judgments
 
-              abbrev pub by_scopes : length hyps ≡ FACTWORDS → Scopes K (rule_lists K.theory rules rulevars patterns) facts lists n J X new r cells ids hyps
-              by_scopes w =
-                  record {
-                    S = g.S;
-                    xs = g.xs;
-                    footings = footings;
-                    refers = after;
-                    ruled = g.ruled;
-                    known = known;
-                    holding = g.holds;
-                    many = sym (b ∙ wanted);
-                    there = λ i l. refs.there i (omega (arith, l, filled));
+            abbrev scope : Out Made Tree
+            scope = in_scope g.S (rule g.S.theory r) (args_of (made J X new) ids) (rising (length g.S.facts) (holds hyps)) (rest g.xs 4) (made J X new)
+
+            abbrev last : Tree → Made → Out Made (Fact × ℕ)
+            last j s = ok (fact refs.refs j) s
+
+            on_last : On I W m whole J X new (then scope last)
+            on_last =
+                on_is (on_ok third on_third refs.went)
+                (λ i. then (in_scope g.S (rule g.S.theory r) (sym judged i) (rising (length g.S.facts) (sym refs.rests i)) (rest g.xs 4) (made J X new)) last)
+
+            -- the rule has joined the footing
+            module _ (footing' : List ℕ) (w : holds footing' ≡ plus r (holds footing)) where
+              footed : union (has (r ∷ [])) refs.refs.footing ≡ holds footing'
+              footed = sym (w ∙ ap (plus r) refs.uses ∙ has_one r refs.refs.footing)
+
+              known_all : Under (length g.S.theory.rules) (holds footing')
+              known_all v t =
+                  ⊎_elim (λ z. refs.known v z) (λ z. omega (arith, eqb-true v r z, by_rule_lem)) (or_cases (holds footing v) (eqb v r) (sym (ap (λ (s : Set). s v) w) ∙ t))
+
+              fact_is : (j : Tree) (c : ℕ) → c ≡ instances → fact refs.refs j ≡ with_instances (derived_fact g.S j hyps footing') c
+              fact_is j c z = λ i. (
+                record {
+                  judgment = j;
+                  hyps = rising (length g.S.facts) (sym refs.rests i);
+                  assumed = false;
+                  premises = none;
+                  general = [];
+                  footing = rising (length g.S.theory.rules) (footed i);
+                },
+                (sym (z ∙ refs.counted)) i,
+              )
+
+              -- the references' hypotheses and instances beside it
+              abbrev brought' : Brought
+              brought' = record { instances = instances; support = record { hyps = hyps; footing = footing' } }
+
+              by_answers : (Y Z : List ℕ) (now : Mark) (a : Result Derived Question) → ScopedBy J X Y Z new now scope brought' a →
+                  DerivedBy (Fact × ℕ) I W Y Z m now g.S whole with_instances a
+              by_answers Y Z now (Ok d) t =
+                  subst (λ (s : Support). DerivedRead (Fact × ℕ) I W Y Z m g.S whole with_instances s.hyps s.footing d.judgment d.instances now) (sym t.2) (record {
+                    went = on_done (on_is (on_ok last on_last t.0.went) (ap (λ (f : Fact × ℕ). ok f (made Y Z now)) (fact_is (tree Y Z now d.judgment) d.instances t.1)));
+                    there = t.0.there;
                     earlier = refs.earlier;
-                    long = w;
-                  }
+                    known = known_all;
+                  })
+              by_answers Y Z now (Err q) t = on_no last on_last t
 
-              -- the terms of the references, and what they rest on
-              judged : args_of (made J X new) ids ≡ refs.refs.judgments
-              judged =
-                  ap (args_of (made J X new)) (sym (take-length ids)) ∙ ap (λ (i : ℕ). args_of (made J X new) (take i ids)) filled ∙ refs.judgments
-
-              abbrev scope : Out Made Tree
-              scope = in_scope g.S (rule g.S.theory r) (args_of (made J X new) ids) (rising (length g.S.facts) (holds hyps)) (rest g.xs 4) (made J X new)
-
-              abbrev last : Tree → Made → Out Made (Fact × ℕ)
-              last j s = ok (fact refs.refs j) s
-
-              on_last : On I W m whole J X new (then scope last)
-              on_last =
-                  on_is (on_ok third on_third refs.went)
-                  (λ i. then (in_scope g.S (rule g.S.theory r) (sym judged i) (rising (length g.S.facts) (sym refs.rests i)) (rest g.xs 4) (made J X new)) last)
-
-              -- the rule has joined the footing
-              module _ (footing' : List ℕ) (w : holds footing' ≡ plus r (holds footing)) where
-                footed : union (has (r ∷ [])) refs.refs.footing ≡ holds footing'
-                footed = sym (w ∙ ap (plus r) refs.uses ∙ has_one r refs.refs.footing)
-
-                known_all : Under (length g.S.theory.rules) (holds footing')
-                known_all v t =
-                    ⊎_elim (λ z. refs.known v z) (λ z. omega (arith, eqb-true v r z, by_rule_lem)) (or_cases (holds footing v) (eqb v r) (sym (ap (λ (s : Set). s v) w) ∙ t))
-
-                fact_is : (j : Tree) (c : ℕ) → c ≡ instances → fact refs.refs j ≡ with_instances (derived_fact g.S j hyps footing') c
-                fact_is j c z = λ i. (
-                  record {
-                    judgment = j;
-                    hyps = rising (length g.S.facts) (sym refs.rests i);
-                    assumed = false;
-                    premises = none;
-                    general = [];
-                    footing = rising (length g.S.theory.rules) (footed i);
-                  },
-                  (sym (z ∙ refs.counted)) i,
-                )
-
-                -- the references' hypotheses and instances beside it
-                abbrev brought' : Brought
-                brought' = record { instances = instances; support = record { hyps = hyps; footing = footing' } }
-
-                by_answers : (Y Z : List ℕ) (now : Mark) (a : Result Derived Question) → ScopedBy J X Y Z new now scope brought' a →
-                    DerivedBy (Fact × ℕ) I W Y Z m now g.S whole with_instances a
-                by_answers Y Z now (Ok d) t =
-                    subst (λ (s : Support). DerivedRead (Fact × ℕ) I W Y Z m g.S whole with_instances s.hyps s.footing d.judgment d.instances now) (sym t.2) (record {
-                      went = on_done (on_is (on_ok last on_last t.0.went) (ap (λ (f : Fact × ℕ). ok f (made Y Z now)) (fact_is (tree Y Z now d.judgment) d.instances t.1)));
-                      there = t.0.there;
-                      earlier = refs.earlier;
-                      known = known_all;
-                    })
-                by_answers Y Z now (Err q) t = on_no last on_last t
-
-                pub by_answer : (l : length hyps ≡ FACTWORDS) (Y Z : List ℕ) (now : Mark) (a : Result Derived Question) →
-                    ((h : Scopes K (rule_lists K.theory rules rulevars patterns) facts lists n J X new r cells ids hyps) →
-                    ScopedBy J X Y Z new now
-                    (in_scope h.S (rule h.S.theory r) (args_of (made J X new) ids) (rising (length h.S.facts) (holds hyps)) (rest h.xs 4) (made J X new)) brought' a) →
-                    DerivedBy (Fact × ℕ) I W Y Z m now g.S whole with_instances a
-                by_answer l Y Z now a t = by_answers Y Z now a (t (by_scopes l))
+              pub by_answer : (Y Z : List ℕ) (now : Mark) (a : Result Derived Question) →
+                  ((h : Scopes K (rule_lists K.theory rules rulevars patterns) facts lists n J X new r cells ids hyps) →
+                  ScopedBy J X Y Z new now
+                  (in_scope h.S (rule h.S.theory r) (args_of (made J X new) ids) (rising (length h.S.facts) (holds hyps)) (rest h.xs 4) (made J X new)) brought' a) →
+                  DerivedBy (Fact × ℕ) I W Y Z m now g.S whole with_instances a
+              by_answer Y Z now a t = by_answers Y Z now a (t by_scopes)

@@ -1,9 +1,9 @@
 -- Question 39 behind the conclusion of a step: what stays readable, and the definition's answer. Assumes nothing.
 use mathlib.Core.Path.{◌≡◌}
 use mathlib.Core.List.{List, [], ◌∷◌}
-use Prim.Native.Nat.{ℕ, suc, ◌-◌, ◌<◌, ◌≤◌}
+use Prim.Native.Nat.{ℕ, suc, ◌<◌}
 use native.Mathlib.Omega.{arith}
-use lib.ListN.{length, get_or, take, drop}
+use lib.ListN.{length, get_or, drop}
 use Rattle.rules.specs.Out.{Out, ok, refuse, then}
 use Rattle.rules.specs.Find.{Set, rising}
 use Rattle.rules.specs.Sexp.{Sexps, rest}
@@ -21,7 +21,7 @@ use Rattle.rules.proofs.Laws.StepWalk.{ItemsIn, no_items_in, read_items_keeps, c
 use Rattle.rules.specs.Laws.Sound.{sound}
 use Rattle.sexp.specs.Encode.{encodes}
 use Rattle.sexp.specs.Items.{place}
-use Rattle.sexp.specs.NthItem.{place_high, rest_holds}
+use Rattle.referring.specs.Laws.Behind.{from_holds}
 use Rattle.terms.specs.declared.store.Mark.{Mark}
 use Rattle.terms.specs.Table.{made, tree, args_of, Good}
 use Rattle.terms.specs.Sets.{holds}
@@ -81,25 +81,23 @@ module _ {K : Names} {rules rulevars patterns facts lists : List ℕ} {n : Sizes
   unfolding in_scope
   on_first = on_start g.refers.reads.good
 
-  module _ {at : ℕ} (a : (ys : Sexps) → cells ≡ encodes ys → at ≡ place ys 4) where
-    pub scope_high : at ≤ length cells
-    scope_high = place_high g.holding 4 a
-
-    abbrev pub scope_given : Concludes K (rule_lists K.theory rules rulevars patterns) n I W m r (take (length cells - at) (drop at cells)) ids
+  -- the items behind the references
+  module _ {behind : List ℕ} (a : (ys : Sexps) → cells ≡ encodes ys → behind ≡ drop (place ys 4) cells) where
+    abbrev pub scope_given : Concludes K (rule_lists K.theory rules rulevars patterns) n I W m r behind ids
     scope_given =
         record {
-          given = record { S = g.S; xs = rest g.xs 4; reads = g.refers.reads; ruled = g.ruled; known = g.known; holds = rest_holds g.holding 4 a };
+          given = record { S = g.S; xs = rest g.xs 4; reads = g.refers.reads; ruled = g.ruled; known = g.known; holds = from_holds g.holding 4 a };
           many = g.many;
           there = g.there;
         }
 
     pub scope_refused : {J X : List ℕ} {new : Mark} {q d : ℕ} →
-        ((h : Concludes K (rule_lists K.theory rules rulevars patterns) n I W m r (take (length cells - at) (drop at cells)) ids) →
+        ((h : Concludes K (rule_lists K.theory rules rulevars patterns) n I W m r behind ids) →
         Stopped I W J X m (from_items h.given.S (rule h.given.S.theory r) (args_of (made I W m) ids) h.given.xs (made I W m)) q d new) → Stopped I W J X m whole q d new
     scope_refused p = on_no second on_first (p scope_given)
 
     module _ {J X used : List ℕ} {new : Mark} {j : ℕ}
-        (p : (h : Concludes K (rule_lists K.theory rules rulevars patterns) n I W m r (take (length cells - at) (drop at cells)) ids) →
+        (p : (h : Concludes K (rule_lists K.theory rules rulevars patterns) n I W m r behind ids) →
         UsedRead I W J X m (from_items h.given.S (rule h.given.S.theory r) (args_of (made I W m) ids) h.given.xs (made I W m)) used j new) where
       used_read : UsedRead I W J X m first used j new
       used_read = p scope_given

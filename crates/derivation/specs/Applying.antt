@@ -26,7 +26,7 @@ use Rattle.questions.specs.Numbers.{number_of, detail_of}
 use Rattle.terms.specs.declared.store.Store.{Store}
 use Rattle.referring.specs.declared.source.Facts.{Facts}
 use Rattle.referring.specs.declared.source.Source.{Source}
-use Rattle.referring.specs.declared.support.Support.{Support}
+use Rattle.derivation.specs.declared.apply.Discharge.{Discharge}
 use Rattle.referring.specs.Sources.{source_names}
 use Rattle.referring.specs.Recall.{judgment_cells, Refers}
 
@@ -125,9 +125,9 @@ pub record Discharged (I W J X : List ℕ) (old : Mark) (S : State) (K : Out Mad
   pub known : Under (length S.theory.rules) (holds footing)
   pub vars : holds used ≡ variables_of refs.judgments
 
-abbrev pub DischargedBy : List ℕ → List ℕ → List ℕ → List ℕ → Mark → Mark → State → Out Made Refs → List ℕ → Result Support Question → Type 0
-DischargedBy I W J X old new S K used (Ok support) = Discharged I W J X old S K support.hyps support.footing used new
-DischargedBy I W J X old new S K used (Err q) = Stopped I W J X old K (number_of q) (detail_of q) new
+abbrev pub DischargedBy : List ℕ → List ℕ → List ℕ → List ℕ → Mark → Mark → State → Out Made Refs → Result Discharge Question → Type 0
+DischargedBy I W J X old new S K (Ok d) = Discharged I W J X old S K d.support.hyps d.support.footing d.used new
+DischargedBy I W J X old new S K (Err q) = Stopped I W J X old K (number_of q) (detail_of q) new
 
-abbrev pub DischargedAs : Store → Store → State → Out Made Refs → List ℕ → Result Support Question → Type 0
-DischargedAs s t S K used r = DischargedBy s.index.now s.words.now t.index.now t.words.now s.mark t.mark S K used r
+abbrev pub DischargedAs : Store → Store → State → Out Made Refs → Result Discharge Question → Type 0
+DischargedAs s t S K r = DischargedBy s.index.now s.words.now t.index.now t.words.now s.mark t.mark S K r

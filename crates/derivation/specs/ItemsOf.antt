@@ -13,7 +13,7 @@ use Rattle.terms.specs.declared.store.Mark.{Mark}
 use Rattle.terms.specs.declared.store.Store.{Store}
 use Rattle.terms.specs.Table.{made}
 use Rattle.terms.specs.Sets.{counted_from_1}
-use Rattle.terms.specs.Patterns.{tree_in, bound_of, Cells}
+use Rattle.terms.specs.Patterns.{cells_of, tree_in, bound_of, Cells}
 use Rattle.terms.specs.On.{Stopped}
 use Rattle.state.specs.declared.sizes.Sizes.{Sizes}
 use Rattle.state.specs.Held.{Names, RuleLists, rule_lists, Ruled}
@@ -54,13 +54,13 @@ tables_of r u = rule_lists r.theory.now u.rules.rows.now u.rules.vars.now u.rule
 
 abbrev pub ReadsRuleItem : Reader → OneRule → Store → List ℕ → Said → Type 0
 ReadsRuleItem r u s cells said =
-    RuleItem (names_of r) u.rules.rows.now u.rules.vars.now r.n s.index.now s.words.now s.mark u.number cells said.bound (counted_from_1 said.stated)
+    RuleItem (names_of r) u.rules.rows.now u.rules.vars.now r.n s.index.now s.words.now s.mark u.number cells (cells_of said.bound) (counted_from_1 said.stated)
 
 abbrev pub ReadsRuleItems : Reader → OneRule → Store → List ℕ → Type 0
 ReadsRuleItems r u s cells = RuleItems (names_of r) (tables_of r u) r.n s.index.now s.words.now s.mark u.number cells
 
 abbrev pub HeldIn : Store → Said → Items → Type 0
-HeldIn s said it = ItemsHeld s.index.now s.words.now s.mark said.bound (counted_from_1 said.stated) it
+HeldIn s said it = ItemsHeld s.index.now s.words.now s.mark (cells_of said.bound) (counted_from_1 said.stated) it
 
 -- the term that is stated
 abbrev pub stated_in : Made → Option ℕ → Option Tree
@@ -69,7 +69,7 @@ stated_in M stated = tree_in M (counted_from_1 stated)
 -- Answers ----------------------------------------------------------------------------------------------------------------------------
 
 abbrev pub ItemsBy : List ℕ → List ℕ → List ℕ → List ℕ → Mark → Mark → Out Made Items → Result Said Question → Type 0
-ItemsBy I W J X old new K (Ok said) = ItemsRead I W J X old K said.bound (counted_from_1 said.stated) new
+ItemsBy I W J X old new K (Ok said) = ItemsRead I W J X old K (cells_of said.bound) (counted_from_1 said.stated) new
 ItemsBy I W J X old new K (Err q) = Stopped I W J X old K (number_of q) (detail_of q) new
 
 abbrev pub ItemsAs : Store → Store → Out Made Items → Result Said Question → Type 0
@@ -77,7 +77,7 @@ ItemsAs s t K r = ItemsBy s.index.now s.words.now t.index.now t.words.now s.mark
 
 -- of one item: what was said before, and afterwards
 abbrev pub ItemBy : List ℕ → List ℕ → List ℕ → List ℕ → Mark → Mark → Out Made Items → Said → Said → Result (Unit {0}) Question → Type 0
-ItemBy I W J X old new K before said (Ok _) = ItemsRead I W J X old K said.bound (counted_from_1 said.stated) new
+ItemBy I W J X old new K before said (Ok _) = ItemsRead I W J X old K (cells_of said.bound) (counted_from_1 said.stated) new
 ItemBy I W J X old new K before said (Err q) = Stopped I W J X old K (number_of q) (detail_of q) new × (said ≡ before)
 
 abbrev pub ItemAs : Store → Store → Out Made Items → Said → Said → Result (Unit {0}) Question → Type 0

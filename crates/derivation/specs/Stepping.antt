@@ -1,7 +1,7 @@
 -- The parts of a step behind its references: what the definition says of each, what they are given and what they answer. Assumes nothing.
 use Rattle.state.specs.Records.{fact_rows}
 use Rattle.std.specs.Prelude.{◌≡◌, false, List, [], ◌∷◌, ℕ, ◌*◌, ◌<◌, ◌≤◌, eqb, length, get_or, Option, Result, Ok, Err}
-use Rattle.rules.specs.Limits.{SYMBOLS, FACTWORDS}
+use Rattle.rules.specs.Limits.{SYMBOLS}
 use Rattle.rules.specs.Out.{Out, Act, ◌>>=◌, pure, ask, found}
 use Rattle.rules.specs.Find.{Set, has, union, rising}
 use Rattle.rules.specs.Sexp.{Sexps, count, item, rest, items}
@@ -22,7 +22,7 @@ use Rattle.terms.specs.declared.store.Terms.{Terms}
 use Rattle.terms.specs.declared.store.Store.{Store}
 use Rattle.terms.specs.Table.{tree, Good}
 use Rattle.terms.specs.Sets.{holds, counted_from_1}
-use Rattle.terms.specs.Patterns.{Stands, Standing, PatternAt, Cells}
+use Rattle.terms.specs.Patterns.{Stands, Standing, PatternAt, cells_of, Cells}
 use Rattle.terms.specs.On.{Went, Stopped}
 use Rattle.state.specs.declared.sizes.Sizes.{Sizes}
 use Rattle.state.specs.Held.{Names, RuleLists, Ruled}
@@ -126,7 +126,6 @@ pub record Scopes (K : Names) (P : RuleLists) (facts lists : List ℕ) (n : Size
   pub many : count_trees (rule S.theory r).premises ≡ length ids
   pub there : (k : ℕ) → k < length ids → get_or ids k 0 < m.terms
   pub earlier : Under (length S.facts) (holds hyps)
-  pub long : length hyps ≡ FACTWORDS
 
 -- rule r has k premises, in whatever theory the rows of rules hold
 abbrev pub PremisesOf : List ℕ → ℕ → ℕ → Type 0
@@ -140,7 +139,7 @@ abbrev pub StatedIn : Patterns → Terms → List ℕ → ℕ → Option ℕ →
 StatedIn p t B place stated = StatedMatchable p.symbols.now p.words.now t.index.now t.words.now t.mark B place (counted_from_1 stated)
 
 abbrev pub ConcludableIn : Patterns → Store → Said → ℕ → ℕ → List ℕ → Type 0
-ConcludableIn p s said first place ids = Concludable p.symbols.now p.words.now s.index.now s.words.now s.mark said.bound first place ids (counted_from_1 said.stated)
+ConcludableIn p s said first place ids = Concludable p.symbols.now p.words.now s.index.now s.words.now s.mark (cells_of said.bound) first place ids (counted_from_1 said.stated)
 
 abbrev pub ReadsConclusion : Reader → OneRule → Store → List ℕ → List ℕ → Type 0
 ReadsConclusion r u s cells ids = Concludes (names_of r) (tables_of r u) r.n s.index.now s.words.now s.mark u.number cells ids

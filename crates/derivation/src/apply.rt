@@ -2,7 +2,7 @@
 // hypotheses, all plain, are the premises, by rising index.
 ghost use Rattle.state.specs.Records.{fact_rows};
 ghost use Rattle.std.specs.Prelude.{◌≡◌, ◌<◌, length, get_or, replicate};
-ghost use Rattle.rules.specs.Limits.{VARIABLES, TERMS, VARIABLEWORDS, FACTWORDS};
+ghost use Rattle.rules.specs.Limits.{VARIABLES, TERMS, VARIABLEWORDS};
 ghost use Rattle.rules.specs.Find.{all, union, has as has_number};
 ghost use Rattle.rules.specs.Store.{Made};
 ghost use Rattle.rules.specs.State.{Fact};
@@ -23,9 +23,8 @@ use referring::references::{Referred, insert_all};
 use referring::scope::visit_cells;
 use referring::source::{Facts, Source};
 use referring::support::{Derived, Support};
-use rules::{TERMWORDS, VARIABLES, VARIABLEWORDS};
+use rules::{FACTWORDS, TERMWORDS, VARIABLES, VARIABLEWORDS};
 use sexp::items;
-use sexp::items::Item;
 use state::recorded::{is_assumed, is_fact, is_plain, judgment};
 use terms::sets::{has, insert};
 use terms::store::Store;
@@ -39,52 +38,55 @@ struct Rule<'a> {
     bound: &'a [u32],
 }
 
-// Whether the hypotheses of fact i are all plain.
-fn rests_on_plain(facts: &Facts<'_>, i: usize) -> bool
-    requires { RuleIn facts.now i }
-    ensures { (g : RuleIn facts.now i) → result ≡ all (plain_at g.S.facts) (fact_of g.S i).hyps }
-{
-    for h in facts.hyps(i) {
-        if !is_plain(facts.records, *h as usize) {
-            return false;
-        }
-    }
-    true
-}
-
-// How many premises fact i has as a rule.
-fn premises_of(facts: &Facts<'_>, i: usize) -> usize
-    requires { RuleIn facts.now i }
-    ensures { result ≡ length (premise_numbers (fact_rows facts.now.records.now) facts.now.lists.now i) }
-{
-    if is_assumed(facts.records, i) {
-        return facts.premises(i).len();
-    }
-    facts.hyps(i).len()
-}
-
-// Its premise k.
-fn premise(facts: &Facts<'_>, i: usize, k: usize) -> usize
-    requires { RuleIn facts.now i × (k < length (premise_numbers (fact_rows facts.now.records.now) facts.now.lists.now i)) }
-    ensures { result ≡ get_or (premise_numbers (fact_rows facts.now.records.now) facts.now.lists.now i) k 0 }
-{
-    if is_assumed(facts.records, i) {
-        return facts.premises(i)[k] as usize;
-    }
-    judgment(facts.records, facts.hyps(i)[k] as usize)
-}
-
-// A hypothesis that is used as a rule is rested on.
-fn rest_on(facts: &Facts<'_>, i: usize, hyps: &mut [u64])
-    requires { RuleIn facts.now i × (length hyps.old ≡ FACTWORDS) }
-    ensures { (g : RuleIn facts.now i) → holds hyps.new ≡ union (has_number (rule_of g.S i (fact_of g.S i)).hyps) (holds hyps.old) }
-{
-    if is_assumed(facts.records, i) {
-        insert(hyps, i);
-    }
+// What the references bring: what is rested on, and the variables of their judgments, as a set.
+#[derive(Clone, Copy)]
+struct Discharge {
+    support: Support,
+    used: [u64; VARIABLEWORDS],
 }
 
 impl Rule<'_> {
+    // Whether the hypotheses of the fact are all plain.
+    fn rests_on_plain(&self, facts: &Facts<'_>) -> bool
+        requires { RuleIn facts.now self.now.fact }
+        ensures { (g : RuleIn facts.now self.now.fact) → result ≡ all (plain_at g.S.facts) (fact_of g.S self.now.fact).hyps }
+    {
+        let hyps = facts.hyps(self.fact);
+        hyps.iter().all(|h| is_plain(facts.records, *h as usize))
+    }
+
+    // How many premises the fact has as a rule.
+    fn premises_of(&self, facts: &Facts<'_>) -> usize
+        requires { RuleIn facts.now self.now.fact }
+        ensures { result ≡ length (premise_numbers (fact_rows facts.now.records.now) facts.now.lists.now self.now.fact) }
+    {
+        if is_assumed(facts.records, self.fact) {
+            return facts.premises(self.fact).len();
+        }
+        facts.hyps(self.fact).len()
+    }
+
+    // Its premise k.
+    fn premise(&self, facts: &Facts<'_>, k: usize) -> usize
+        requires { RuleIn facts.now self.now.fact × (k < length (premise_numbers (fact_rows facts.now.records.now) facts.now.lists.now self.now.fact)) }
+        ensures { result ≡ get_or (premise_numbers (fact_rows facts.now.records.now) facts.now.lists.now self.now.fact) k 0 }
+    {
+        if is_assumed(facts.records, self.fact) {
+            return facts.premises(self.fact)[k] as usize;
+        }
+        judgment(facts.records, facts.hyps(self.fact)[k] as usize)
+    }
+
+    // A hypothesis that is used as a rule is rested on.
+    fn rest_on(&self, facts: &Facts<'_>, hyps: &mut [u64; FACTWORDS])
+        requires { RuleIn facts.now self.now.fact }
+        ensures { (g : RuleIn facts.now self.now.fact) → holds hyps.new ≡ union (has_number (rule_of g.S self.now.fact (fact_of g.S self.now.fact)).hyps) (holds hyps.old) }
+    {
+        if is_assumed(facts.records, self.fact) {
+            insert(hyps, self.fact);
+        }
+    }
+
     // Whether the map binds no variable but those that the fact generalises.
     fn binds_general(&self, facts: &Facts<'_>) -> bool
         requires { RuleIn facts.now self.now.fact × (length self.now.bound.now ≡ VARIABLES) }
@@ -92,12 +94,7 @@ impl Rule<'_> {
     {
         let mut own = [0u64; VARIABLEWORDS];
         insert_all(facts.general(self.fact), &mut own);
-        for (v, cell) in self.bound.iter().enumerate() {
-            if *cell != 0 && !has(&own, v) {
-                return false;
-            }
-        }
-        true
+        (0..VARIABLES).all(|v| self.bound[v] == 0 || has(&own, v))
     }
 
     // Questions 36 and 40: whether the fact can be used as a rule under the map.
@@ -111,7 +108,7 @@ impl Rule<'_> {
             }
             return Err(Question::Binding);
         }
-        if rests_on_plain(facts, self.fact) {
+        if self.rests_on_plain(facts) {
             return Ok(());
         }
         Err(Question::Hypothesis)
@@ -141,33 +138,32 @@ impl Rule<'_> {
         Ok(referred)
     }
 
-    // Each premise under the map, and the reference that is it: what the references bring is answered, the variables of their judgments come into
-    // `used`, which is empty before. `memo` is scratch: zero before and after.
+    // Each premise under the map, and the reference that is it. `memo` is scratch: zero before and after.
     fn discharge(
         &self,
         source: &Source<'_>,
         store: &mut Store<'_>,
         cells: &[u32],
         memo: &mut [u32],
-        used: &mut [u64],
-    ) -> Result<Support, Question>
+    ) -> Result<Discharge, Question>
         requires rule_use { UsesRule source.now store.old self.now.fact cells.now self.now.bound.now }
-        requires blank { (memo.old ≡ replicate TERMS 0) × (used.old ≡ replicate VARIABLEWORDS 0) }
+        requires memo_value { memo.old ≡ replicate TERMS 0 }
         ensures same_tables { SameTables store.old store.new }
         ensures discharged_as { (g : UsesRule source.now store.old self.now.fact cells.now self.now.bound.now) →
-            DischargedAs store.old store.new g.S (discharge g.S (bindings_of (made_of store.old) self.now.bound.now 0) g.xs (rule_of g.S self.now.fact (fact_of g.S self.now.fact)).premises (made_of store.old)) used.new result }
+            DischargedAs store.old store.new g.S (discharge g.S (bindings_of (made_of store.old) self.now.bound.now 0) g.xs (rule_of g.S self.now.fact (fact_of g.S self.now.fact)).premises (made_of store.old)) result }
         ensures memo_unchanged { memo.new ≡ memo.old }
     {
         let facts = source.facts();
         let mut seen = [0u64; TERMWORDS];
+        let mut used = [0u64; VARIABLEWORDS];
         let mut support = Support::NONE;
         for (k, item) in items::all(cells).enumerate() {
-            let p = premise(&facts, self.fact, k);
+            let p = self.premise(&facts, k);
             let referred = self.met(source, store, p, item, memo)?;
             support.join(&facts, &referred);
-            visit(&store.terms(), referred.judgment, &mut seen, used);
+            visit(&store.terms(), referred.judgment, &mut seen, &mut used);
         }
-        Ok(support)
+        Ok(Discharge { support, used })
     }
 
     // The rest of the form behind its conclusion j. `memo` is scratch: zero before and after.
@@ -187,9 +183,11 @@ impl Rule<'_> {
         ensures memo_unchanged { memo.new ≡ memo.old }
     {
         let facts = source.facts();
-        let mut used = [0u64; VARIABLEWORDS];
-        let mut support = self.discharge(source, store, cells, memo, &mut used)?;
-        rest_on(&facts, self.fact, &mut support.hyps);
+        let Discharge {
+            mut support,
+            mut used,
+        } = self.discharge(source, store, cells, memo)?;
+        self.rest_on(&facts, &mut support.hyps);
         let terms = store.terms();
         let mut seen = [0u64; TERMWORDS];
         visit_cells(&terms, self.bound, &mut seen, &mut used);
@@ -221,11 +219,8 @@ impl Rule<'_> {
         }
         let facts = source.facts();
         self.applicable(&facts)?;
-        let Item::List(a, b) = items::nth(cells, 4) else {
-            return Err(Question::Premises);
-        };
-        let inner = &cells[a..b];
-        if items::count(inner) != premises_of(&facts, self.fact) {
+        let inner = items::list(cells, 4).ok_or(Question::Premises)?;
+        if items::count(inner) != self.premises_of(&facts) {
             return Err(Question::Premises);
         }
         let j = substitute(store, self.bound, memo, judgment(facts.records, self.fact))?;
@@ -247,15 +242,10 @@ pub fn apply(
         DerivedAs Fact store.old store.new g.S (apply g.S g.xs (made_of store.old)) alone result }
     ensures memo_unchanged { memo.new ≡ memo.old }
 {
-    let at = items::place(cells, 2);
-    let Some(i) = index_in(source.reader.text, &cells[at..]) else {
-        return Err(Question::Earlier);
-    };
-    let Item::List(a, b) = items::nth(cells, 3) else {
-        return Err(Question::Binding);
-    };
+    let i = index_in(source.reader.text, items::from(cells, 2)).ok_or(Question::Earlier)?;
+    let inner = items::list(cells, 3).ok_or(Question::Binding)?;
     let mut bound = [0; VARIABLES];
-    source.reader.bindings(store, &cells[a..b], &mut bound)?;
+    source.reader.bindings(store, inner, &mut bound)?;
     let rule = Rule {
         fact: i,
         bound: &bound,

@@ -19,6 +19,7 @@ use reading::reader::Reader;
 use rules::RULEVARS;
 use sexp::items::Item;
 use sexp::{items, lex};
+use terms::patterns::Bound;
 use terms::store::Store;
 
 // A rule by its number, and the tables in which it stands.
@@ -28,11 +29,11 @@ pub struct OneRule<'a> {
     pub number: usize,
 }
 
-// What items say: a cell for each variable of the rule, the number of a term with 1 added or 0, which is what patterns are matched and built over, and the
-// number of the conclusion, where one is stated.
+// What items say: the terms that the rule's variables are bound to, over which patterns are matched and built, and the number of the conclusion, where one
+// is stated.
 #[derive(Clone, Copy)]
 pub struct Said {
-    pub bound: [u32; RULEVARS],
+    pub bound: Bound,
     pub stated: Option<usize>,
 }
 
@@ -45,7 +46,7 @@ fn binds(text: &[u8], cells: &[u32], start: usize) -> bool
 }
 
 impl Said {
-    // The binding of the variable of the rule with the name at a place: the term that the first item spells comes into the variable's cell.
+    // The binding of the variable of the rule with the name at a place: the term that the first item spells is what it is bound to.
     fn bind_item(
         &mut self,
         reader: &Reader<'_>,
@@ -61,17 +62,16 @@ impl Said {
             ItemAs store.old store.new (bind_item g.S (rule_in g.S.theory rule.now.number) name g.x g.it (made_of store.old)) self.old self.new result }
     {
         let OneRule { rules, number } = *rule;
-        let end = lex::atom_end(reader.text, start);
-        let name = &reader.text[start..end];
+        let name = lex::atom(reader.text, start);
         let count = rules.variables(number);
-        let Some(i) = rules.rule_var_named(reader.theory, number, count, name) else {
-            return Err(Question::Binding);
-        };
+        let i = rules
+            .rule_var_named(reader.theory, number, count, name)
+            .ok_or(Question::Binding)?;
         let term = reader.term_of(store, cells, rules.variable_sort(number, i))?;
-        if self.bound[i] != 0 {
+        if self.bound[i].is_some() {
             return Err(Question::Binding);
         }
-        self.bound[i] = (term + 1) as u32;
+        self.bound[i] = Some(term);
         Ok(())
     }
 
@@ -109,10 +109,7 @@ impl Said {
         ensures item_as { (g : ReadsRuleItem reader.now rule.now store.old cells.now self.old) →
             ItemAs store.old store.new (read_item g.S (rule_in g.S.theory rule.now.number) g.x g.it (made_of store.old)) self.old self.new result }
     {
-        let Item::List(a, b) = items::item_at(cells, 0) else {
-            return Err(Question::Spelling);
-        };
-        let inner = &cells[a..b];
+        let inner = items::list(cells, 0).ok_or(Question::Spelling)?;
         if inner.is_empty() {
             return Err(Question::Spelling);
         }
@@ -120,7 +117,7 @@ impl Said {
             return Err(Question::Spelling);
         };
         if binds(reader.text, inner, start) {
-            return self.bind_item(reader, rule, store, &inner[1..], start);
+            return self.bind_item(reader, rule, store, items::from(inner, 1), start);
         }
         self.state_item(reader, store, cells)
     }
@@ -139,7 +136,7 @@ pub fn read_items(
         ItemsAs store.old store.new (read_items g.S (rule_in g.S.theory rule.now.number) g.xs no_items (made_of store.old)) result }
 {
     let mut said = Said {
-        bound: [0; RULEVARS],
+        bound: [None; RULEVARS],
         stated: None,
     };
     for item in items::all(cells) {

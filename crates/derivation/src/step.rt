@@ -10,7 +10,7 @@ ghost use Rattle.rules.specs.Step.{references, step, match_stated};
 ghost use Rattle.terms.specs.Table.{args_of};
 ghost use Rattle.terms.specs.Lent.{SameTables, made_of, terms_made};
 ghost use Rattle.terms.specs.Sets.{holds};
-ghost use Rattle.terms.specs.Patterns.{bound_of, Stands, AllMatched};
+ghost use Rattle.terms.specs.Patterns.{cells_of, bound_of, Stands, AllMatched};
 ghost use Rattle.reading.specs.Answers.{ReadAs};
 ghost use Rattle.referring.specs.Sources.{ReadsForm, ReadsRuleForm};
 ghost use Rattle.referring.specs.Derived.{FewItems, DerivedAs, with_instances};
@@ -22,13 +22,12 @@ use cells::clear;
 use kernel::rule_readers::Rules;
 use questions::Question;
 use reading::reader::Reader;
-use referring::scope::{visit_all, visit_cells};
+use referring::scope::{visit_all, visit_bound};
 use referring::source::Source;
 use referring::support::{Derived, Support};
 use rules::{TERMWORDS, VARIABLEWORDS};
 use sexp::items;
-use sexp::items::Item;
-use terms::patterns::Patterns;
+use terms::patterns::{Bound, Patterns};
 use terms::sets::insert;
 use terms::store::{Store, Terms};
 
@@ -78,18 +77,18 @@ fn references(
 fn match_stated(
     patterns: &Patterns<'_>,
     terms: &Terms<'_>,
-    bound: &mut [u32],
+    bound: &mut Bound,
     place: usize,
     stated: Option<usize>,
 ) -> bool
-    requires { StatedIn patterns.now terms.now bound.old place stated }
+    requires { StatedIn patterns.now terms.now (cells_of bound.old) place stated }
     ensures { (p : Tree) → Stands patterns.now.symbols.now patterns.now.words.now place p → let M = terms_made terms.now in
-        AllMatched M bound.old bound.new (match_stated p (stated_in M stated) (bound_of M bound.old)) result }
+        AllMatched M (cells_of bound.old) (cells_of bound.new) (match_stated p (stated_in M stated) (bound_of M (cells_of bound.old))) result }
 {
     let Some(id) = stated else {
         return true;
     };
-    patterns.matches(terms, bound, place, id).is_some()
+    patterns.match_all(terms, bound, place, &[id as u32])
 }
 
 impl Said {
@@ -106,7 +105,7 @@ impl Said {
         requires { ConcludableIn patterns.now store.old self first place ids.now }
         ensures same_tables { SameTables store.old store.new }
         ensures read_as { (g : ConcludableIn patterns.now store.old self first place ids.now) → let M = made_of store.old in
-            ReadAs store.old store.new (concluded g.rule (args_of M ids.now) (stated_in M self.stated) (bound_of M self.bound) M) result }
+            ReadAs store.old store.new (concluded g.rule (args_of M ids.now) (stated_in M self.stated) (bound_of M (cells_of self.bound)) M) result }
     {
         let mut bound = self.bound;
         let terms = store.terms();
@@ -142,7 +141,7 @@ fn conclude(
     let mut used = [0u64; VARIABLEWORDS];
     let terms = store.terms();
     visit_all(&terms, ids, &mut seen, &mut used);
-    visit_cells(&terms, &said.bound, &mut seen, &mut used);
+    visit_bound(&terms, &said.bound, &mut seen, &mut used);
     let OneRule { rules, number } = *rule;
     let place = rules.conclusion(reader.symbols, number);
     let first = rules.words(number).from;
@@ -171,13 +170,10 @@ pub fn step(
     ensures ids_unchanged { ids.new ≡ ids.old }
 {
     let reader = &source.reader;
-    let at = items::place(cells, 2);
-    let Some(name) = items::head(reader.text, &cells[at..]) else {
-        return Err(Question::Defined);
-    };
-    let Some(number) = rules.rule_named(reader.theory, reader.n.rules, name) else {
-        return Err(Question::Defined);
-    };
+    let name = items::head(reader.text, items::from(cells, 2)).ok_or(Question::Defined)?;
+    let number = rules
+        .rule_named(reader.theory, reader.n.rules, name)
+        .ok_or(Question::Defined)?;
     let few = rules.premises(number);
     let rule = OneRule {
         rules: *rules,
@@ -205,10 +201,7 @@ fn step_by(
         DerivedAs (Fact × ℕ) store.old store.new g.S (by_rule g.S rule.now.number g.xs (made_of store.old)) with_instances result }
     ensures memo_unchanged { memo.new ≡ memo.old }
 {
-    let Item::List(a, b) = items::nth(cells, 3) else {
-        return Err(Question::Premises);
-    };
-    let inner = &cells[a..b];
+    let inner = items::list(cells, 3).ok_or(Question::Premises)?;
     if items::count(inner) != ids.len() {
         return Err(Question::Premises);
     }
@@ -232,8 +225,8 @@ fn step_on(
         let hs = rising (length g.S.facts) (holds brought.now.support.hyps) in
         ScopedAs store.old store.new (in_scope g.S (rule_in g.S.theory rule.now.number) (args_of M ids.now) hs (rest g.xs 4) M) brought.now result }
 {
-    let at = items::place(cells, 4);
-    let Concluded { judgment, used } = conclude(&source.reader, rule, store, &cells[at..], ids)?;
+    let items = items::from(cells, 4);
+    let Concluded { judgment, used } = conclude(&source.reader, rule, store, items, ids)?;
     let Brought { instances, support } = *brought;
     source
         .facts()

@@ -26,7 +26,7 @@ use Rattle.state.specs.Recording.{Valid, Derives, DerivedPut, with_fact}
 use Rattle.counts.specs.declared.Counts.{Counts as Counted}
 use Rattle.counts.specs.Counted.{counts_of}
 use Rattle.counts.specs.Sum.{none}
-use Rattle.induction.specs.Inducing.{IDS}
+use Rattle.referring.specs.Ids.{IDS}
 use Rattle.referring.specs.declared.source.Source.{Source}
 use Rattle.referring.specs.declared.support.Derived.{Derived}
 use Rattle.referring.specs.Derived.{FactForm, RuleForm, DerivedAs, with_instances, alone}

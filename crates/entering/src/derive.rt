@@ -10,6 +10,7 @@ use derivation::apply::apply;
 use derivation::step::step;
 use induction::induct::{induct, induct_with};
 use inversion::invert::{invert, put_made};
+use inversion::inverting::Variables;
 use kernel::rule_readers::Rules;
 use questions::Question;
 use referring::source::{Source, source_of};
@@ -19,7 +20,7 @@ use state::board::{Board, Given};
 use terms::store::Store;
 
 // How a derived fact is found. The ways are named, and no closure is handed on: each would have to carry what it asks and answers, which `FindsBy` and
-// `FoundBy` say by the way.
+// `FoundBy` say for each `Way`.
 #[derive(Clone, Copy, Debug, PartialEq, Eq)]
 pub enum Way {
     Step,
@@ -117,13 +118,13 @@ pub fn add_invert(
 {
     let given = *given;
     let source = source_of(&given, board);
-    let inverted = invert(&source, &given.rules, store, cells, memo, ids)?;
-    let found = &inverted.derived;
+    let mut made = Variables::NONE;
+    let found = invert(&source, &given.rules, store, cells, memo, ids, &mut made)?;
     let support = &found.support;
     board.put_derived(found.judgment, &support.hyps, &support.footing)?;
     let count = board.n.vars;
-    put_made(board.vars, count, &inverted.vars);
-    board.n.vars = inverted.vars.count;
+    put_made(board.vars, count, &made);
+    board.n.vars = made.count;
     Ok(Counts {
         inversions: 1,
         ..Counts::NONE

@@ -55,6 +55,7 @@ pub extern "C" fn tariff_read(text: &[u8], words: &mut [u32]) -> usize
 
 // The number of a theory's rules, with its tables laid from its text; where the text is refused, one more than there can be, and the
 // tables of what stood before. `cells` are zero, at least as many as bytes, and are left so.
+// C lends each table as pointer and length, so that they stand one by one.
 #[unsafe(no_mangle)]
 pub extern "C" fn tariff_parse(
     text: &[u8],

@@ -39,6 +39,7 @@ pub extern "C" fn tariff_chain(
     requires first_lt_count { first < count }
     ensures { Chained index.old words.old index.new words.new (record { terms = count; words = used }) first times result }
 {
+    // by its fields' names: of a function of two numbers nobody sees which is which
     let mark = Mark {
         terms: count,
         words: used,

@@ -32,6 +32,7 @@ pub extern "C" fn tariff_keep(
     requires node { Node count node.now }
     ensures { Keeps index.old words.old index.new words.new (record { terms = count; words = used }) node.now result }
 {
+    // by its fields' names: of a function of two numbers nobody sees which is which
     let mark = Mark {
         terms: count,
         words: used,
@@ -100,6 +101,7 @@ fn number_of(answer: Result<bool, Row>) -> usize
 
 // Two terms whose variables are below `variables` are unified. The bindings found are in `theta`, in the form of a map; it is zero before,
 // and where none are found. `map`, `memo`, `pairs` and `seen` are scratch: zero before and after.
+// C lends each table as pointer and length, so that they stand one by one.
 #[unsafe(no_mangle)]
 pub extern "C" fn tariff_unify(
     index: &mut [u32],

@@ -16,7 +16,7 @@ pub struct Fact {
     pub hyps: u32,
     pub premises: u32,
     pub general: u32,
-    pub footing: [u64; 4],
+    pub footing: [u64; 4], // RULEWORDS of them; this crate stands on no other, so that it has not that name
 }
 
 impl Fact {

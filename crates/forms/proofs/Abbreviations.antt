@@ -129,9 +129,9 @@ module _ {K : Names} {n : Sizes} {I W : List ℕ} {m : Mark} {cells : List ℕ} 
           pub def_too_short : end < start + 2 → Halts I W I W m g.S (add_def g.xs g.S) 33 0 m
           def_too_short l = first_halts (def_short g.xs g.S def_name.is (sym b ∙ yes) (omega (arith, d, l)))
 
-          module _ (l : start + 2 ≤ end) {at : ℕ} (p : (ys : Sexps) → cells ≡ encodes ys → at ≡ place ys 2) where
+          module _ (l : start + 2 ≤ end) {behind : List ℕ} (p : (ys : Sexps) → cells ≡ encodes ys → behind ≡ drop (place ys 2) cells) where
             -- what the term is read from
-            abbrev pub def_item : ReadsItem K n I W m (take (length cells - at) (drop at cells))
+            abbrev pub def_item : ReadsItem K n I W m behind
             def_item =
                 record { S = g.S; x = item g.xs 2; ys = rest g.xs 3; reads = g.reads; holds = item_holds g.holds 2 (omega (arith, g.many)) p }
 
@@ -145,13 +145,13 @@ module _ {K : Names} {n : Sizes} {I W : List ℕ} {m : Mark} {cells : List ℕ} 
 
             module _ {J X : List ℕ} {new : Mark} where
               pub def_term_no : {q d : ℕ} →
-                  ((k : ReadsItem K n I W m (take (length cells - at) (drop at cells))) → Stopped I W J X m (term k.S k.x (made I W m)) q d new) →
+                  ((k : ReadsItem K n I W m behind) → Stopped I W J X m (term k.S k.x (made I W m)) q d new) →
                   Halts I W J X m g.S (add_def g.xs g.S) q d new
               def_term_no f =
                   reached_stopped (term g.S (item g.xs 2)) behind_term begun (term_keeps g.S (item g.xs 2) (made I W m) (reads_ready g.reads)) (f def_item)
 
               module _ {t sort : ℕ}
-                  (f : (k : ReadsItem K n I W m (take (length cells - at) (drop at cells))) → TypedRead I W J X m k.S (term k.S k.x (made I W m)) t sort new) where
+                  (f : (k : ReadsItem K n I W m behind) → TypedRead I W J X m k.S (term k.S k.x (made I W m)) t sort new) where
                 term_read : TypedRead I W J X m g.S (term g.S (item g.xs 2) (made I W m)) t sort new
                 term_read = f def_item
 

@@ -103,14 +103,14 @@ putting h l L e =
 -- `put_rule` -----------------------------------------------------------------------------------------------------------------------------
 
 -- the variables are written where there is room, and then the row has room as well
-pub rule_put : (facts footings lists : List ℕ) (n k : Sizes) (judgment premises : ℕ) (general : List ℕ) (Q : Records) (last : List ℕ) (r : Result (Unit {0}) Row) →
-    length lists ≡ ENTRIES → n.facts < FACTS → n.entries + 1 + premises + length general ≤ ENTRIES →
-    last ≡ general ++ drop (length general) (take (length lists - (n.entries + 1 + premises)) (drop (n.entries + 1 + premises) lists)) →
-    HypPutBy (records facts footings (tailed lists (n.entries + 1 + premises) last)) Q n k judgment premises (length general) r →
+pub rule_put : (facts footings lists : List ℕ) (n k : Sizes) (judgment premises : ℕ) (general : List ℕ) (Q : Records) (last : List ℕ) (r : Result (Unit {0}) Row) {at : ℕ} →
+    at ≡ n.entries + 1 + premises → length lists ≡ ENTRIES → n.facts < FACTS → at + length general ≤ ENTRIES →
+    last ≡ general ++ drop (length general) (take (length lists - at) (drop at lists)) →
+    HypPutBy (records facts footings (tailed lists at last)) Q n k judgment premises (length general) r →
     RulePutBy (records facts footings lists) Q n k judgment premises general r
-rule_put facts footings lists n k judgment premises general Q last (Ok u) l f m w p = (
+rule_put facts footings lists n k judgment premises general Q last (Ok u) {at} e l f m w p = (
   subst (λ L. HypothesisPut (records facts footings L) Q n judgment premises (length general) (Ok k.entries))
-      (tailed_written lists (n.entries + 1 + premises) general (omega (arith, l, m)) w) p.0,
+      (tailed_written lists at general (omega (arith, l, m)) w ∙ ap (λ i. sets lists i general) e) p.0,
   p.1,
 )
-rule_put facts footings lists n k judgment premises general Q last (Err d) l f m w p = absurd (let z = p.0.2 f in omega arith)
+rule_put facts footings lists n k judgment premises general Q last (Err d) e l f m w p = absurd (let z = p.0.2 f in omega arith)

@@ -1,17 +1,15 @@
 -- Question 51: each hypothesis of a reference is plain, with a judgment that the goal lists. To look for a term's number among those of the goal's
 -- hypotheses is to look for its tree. Assumes nothing.
 use mathlib.Core.Path.{◌≡◌, refl, sym, ap, ◌∙◌, subst}
-use mathlib.Core.Bool.{Bool, true, false, not, ◌&&◌}
+use mathlib.Core.Bool.{Bool, true, false, ◌&&◌}
 use Rattle.std.specs.Prelude.{Option}
-use mathlib.Core.List.{List, ◌∷◌}
-use Prim.Native.Nat.{ℕ, ◌+◌, ◌*◌, ◌<◌, ◌≤◌}
+use mathlib.Core.List.{List}
+use Prim.Native.Nat.{ℕ, ◌*◌, ◌<◌, ◌≤◌}
 use native.Mathlib.Omega.{arith}
-use native.Mathlib.Numerals.{add-one}
 use native.Mathlib.Decide.{ℕ_discrete}
 use lib.Dec.{eqb}
-use lib.ListN.{length, get_or, drop, replicate, drop_of_length-le}
-use lib.Seq.{drop-cons}
-use borrow.Author.Tests.{eq-eqb, ne_eqb, not-true, not-false}
+use lib.ListN.{length, get_or, replicate}
+use borrow.Author.Tests.{eq-eqb, ne_eqb}
 use Rattle.rules.specs.Limits.{TERMS, TERMWORDS}
 use Rattle.rules.specs.Find.{union, entry, all, has}
 use Rattle.rules.specs.Tree.{Tree, Trees, var, none, more, same_tree, among}
@@ -35,6 +33,9 @@ use Rattle.state.specs.GoalLaws.{GoalRow, goals_long}
 use Rattle.state.specs.FactLaws.{FactRow, fact_row_lem, goal_row_of, lists_long}
 use Rattle.referring.specs.Recall.{fact_of}
 use Rattle.forms.specs.Results.{goal_of, ListsHyps, Covers}
+use Rattle.std.specs.List.{list_all}
+use Rattle.cells.specs.Chains.{all_elements}
+use Rattle.referring.specs.Laws.Tests.{all_same}
 use Rattle.referring.specs.Laws.Refers.{fact_asks}
 use Rattle.referring.specs.Laws.ScopeFree.{from_zeros}
 
@@ -64,8 +65,8 @@ module _ {facts footings lists : List ℕ} {n : Sizes} {M : Made} {S : State} (r
   abbrev here : FactRow (records facts footings lists) n M S h (fact_of S h)
   here = fact_row_lem r h l
 
-  pub judgment_below : (terms : List ℕ) → length terms ≡ TERMWORDS → cell 6 facts h 0 < 64 * length terms
-  judgment_below terms w = omega (arith, w, here.judgment.below, few_trees M r.trees.good)
+  pub judgment_below : cell 6 facts h 0 < TERMS
+  judgment_below = omega (arith, here.judgment.below, few_trees M r.trees.good)
 
   module _ (hs : Trees) (k : Each (sound.Has M) hs) (terms : List ℕ) (e : holds terms ≡ has (numbers M hs)) where
     known : In (fact_of S h).judgment M
@@ -80,46 +81,20 @@ module _ {facts footings lists : List ℕ} {n : Sizes} {M : Made} {S : State} (r
 
 -- All of them ---------------------------------------------------------------------------------------------------------------------------
 
-all_more : (p : ℕ → Bool) (x : ℕ) (xs : List ℕ) {b : Bool} → p x ≡ b → all p (x ∷ xs) ≡ elim b [ true ↦ all p xs | false ↦ false ]
-unfolding all
-all_more p x xs e = ap (λ (z : Bool). elim z [ true ↦ all p xs | false ↦ false ]) e
+module _ {facts hyps : List ℕ} (g : ListsHyps facts hyps) where
+  below : (k : ℕ) → k < length hyps → get_or hyps k 0 < g.n.facts
+  below k l = all_at hyps k 0 g.below l
 
--- those from k on are left
-pub record Listing (facts hyps terms : List ℕ) (k : ℕ) : Type 0 where
-  pub inside : k ≤ length hyps
-  pub left : (g : ListsHyps facts hyps terms) (hs : Trees) → Each (sound.Has g.trees) hs → holds terms ≡ has (numbers g.trees hs) →
-      all (λ h. listed hs (entry g.S.facts h)) hyps ≡ all (λ h. listed hs (entry g.S.facts h)) (drop k hyps)
+  -- what `is_listed` asks
+  pub listing_asks : (k : ℕ) → k < length hyps → FactAt facts (get_or hyps k 0) × (cell 6 facts (get_or hyps k 0) 0 < TERMS)
+  listing_asks k l = (fact_asks g.recorded (below k l), judgment_below g.recorded (below k l))
 
-module _ (facts hyps terms : List ℕ) (k : ℕ) (j : Listing facts hyps terms k) where
-  pub listing_end : length hyps ≤ k → (g : ListsHyps facts hyps terms) (hs : Trees) → Each (sound.Has g.trees) hs → holds terms ≡ has (numbers g.trees hs) →
-      true ≡ all (λ h. listed hs (entry g.S.facts h)) hyps
-  unfolding all
-  listing_end l g hs a e =
-      sym (j.left g hs a e ∙ ap (all (λ h. listed hs (entry g.S.facts h))) (drop_of_length-le hyps {i = k} l))
-
-  module _ (l : k < length hyps) where
-    below : (g : ListsHyps facts hyps terms) → get_or hyps k 0 < g.n.facts
-    below g = all_at hyps k 0 g.below l
-
-    -- what `is_listed` asks
-    pub listing_asks : (g : ListsHyps facts hyps terms) → FactAt facts (get_or hyps k 0) × (cell 6 facts (get_or hyps k 0) 0 < 64 * length terms)
-    listing_asks g = (fact_asks g.recorded (below g), judgment_below g.recorded (below g) terms g.wide)
-
-    module _ {r : Bool} (e : r ≡ plain_row facts (get_or hyps k 0) && holds terms (cell 6 facts (get_or hyps k 0) 0)) where
-      next : {b : Bool} → r ≡ b → (g : ListsHyps facts hyps terms) (hs : Trees) → Each (sound.Has g.trees) hs → holds terms ≡ has (numbers g.trees hs) →
-          all (λ h. listed hs (entry g.S.facts h)) hyps ≡ elim b [ true ↦ all (λ h. listed hs (entry g.S.facts h)) (drop (k + 1) hyps) | false ↦ false ]
-      next {b} q g hs a f =
-          j.left g hs a f
-          ∙ ap (all (λ h. listed hs (entry g.S.facts h))) (drop-cons hyps k 0 l ∙ ap (λ (m : ℕ). get_or hyps k 0 ∷ drop m hyps) (sym (add-one k)))
-          ∙ all_more (λ h. listed hs (entry g.S.facts h)) (get_or hyps k 0) (drop (k + 1) hyps)
-          (sym (is_listed g.recorded (below g) hs a terms f) ∙ sym e ∙ q)
-
-      pub listing_more : not r ≡ false → Listing facts hyps terms (k + 1)
-      listing_more q = record { inside = omega (arith, l); left = next (not-false r q) }
-
-      pub listing_stops : not r ≡ true → (g : ListsHyps facts hyps terms) (hs : Trees) → Each (sound.Has g.trees) hs → holds terms ≡ has (numbers g.trees hs) →
-          false ≡ all (λ h. listed hs (entry g.S.facts h)) hyps
-      listing_stops q g hs a f = sym (next (not-true r q) g hs a f)
+  pub listing_all : (hs : Trees) → Each (sound.Has g.trees) hs → (terms : List ℕ) → holds terms ≡ has (numbers g.trees hs) → {b : Bool} →
+      b ≡ list_all (λ h. plain_row facts h && holds terms (cell 6 facts h 0)) hyps → b ≡ all (λ h. listed hs (entry g.S.facts h)) hyps
+  listing_all hs a terms e r =
+      r ∙ all_elements (λ h. plain_row facts h && holds terms (cell 6 facts h 0)) hyps
+      ∙ all_same (λ h. plain_row facts h && holds terms (cell 6 facts h 0)) (λ h. listed hs (entry g.S.facts h)) hyps
+      (λ k l. is_listed g.recorded (below k l) hs a terms e)
 
 -- A goal and a fact ---------------------------------------------------------------------------------------------------------------------
 
@@ -159,8 +134,8 @@ module _ {rows facts lists : List ℕ} {k i : ℕ} (g : Covers rows facts lists 
       pub own_are : own ≡ (fact_of g.S i).hyps
       own_are = f ∙ fact.hyps
 
-      abbrev pub own_given : (terms : List ℕ) → length terms ≡ TERMWORDS → ListsHyps facts own terms
-      own_given terms w =
+      abbrev pub own_given : ListsHyps facts own
+      own_given =
           record {
             S = g.S;
             n = g.n;
@@ -169,14 +144,13 @@ module _ {rows facts lists : List ℕ} {k i : ℕ} (g : Covers rows facts lists 
             lists = lists;
             recorded = g.recorded;
             below = subst (All (λ h. h < g.n.facts)) (sym own_are) fact.hyps_below;
-            wide = w;
           }
 
-      pub covers_all : (terms : List ℕ) {r : Bool} → length terms ≡ TERMWORDS → holds terms ≡ union (holds (replicate TERMWORDS 0)) (has (part lists s)) →
-          ((h : ListsHyps facts own terms) (hs : Trees) → Each (sound.Has h.trees) hs → holds terms ≡ has (numbers h.trees hs) →
+      pub covers_all : (terms : List ℕ) {r : Bool} → holds terms ≡ union (holds (replicate TERMWORDS 0)) (has (part lists s)) →
+          ((h : ListsHyps facts own) (hs : Trees) → Each (sound.Has h.trees) hs → holds terms ≡ has (numbers h.trees hs) →
           r ≡ all (λ x. listed hs (entry h.S.facts x)) own) →
           r ≡ all (λ h. listed (goal_of g.S k).hyps (entry g.S.facts h)) (fact_of g.S i).hyps
-      covers_all terms w q a =
-          a (own_given terms w) (goal_of g.S k).hyps (all_at g.S.goals k no_goal g.recorded.trees.goals (omega (arith, g.goal, g.held.many))).hyps
+      covers_all terms q a =
+          a own_given (goal_of g.S k).hyps (all_at g.S.goals k no_goal g.recorded.trees.goals (omega (arith, g.goal, g.held.many))).hyps
           (aims_set terms q)
           ∙ ap (all (λ h. listed (goal_of g.S k).hyps (entry g.S.facts h))) own_are

@@ -1,7 +1,7 @@
--- A result that is kept while something is undone: what it is by whether it is an error. Assumes nothing.
+-- What a result or an option is, by whether it is an error, or whether there is something. Assumes nothing.
 use mathlib.Core.Path.{◌≡◌, refl, sym, ap, ◌∙◌}
-use mathlib.Core.Bool.{true, false, false≢true, true≢false}
-use Rattle.std.specs.Prelude.{Result, Ok, Err}
+use mathlib.Core.Bool.{Bool, true, false, false≢true, true≢false}
+use Rattle.std.specs.Prelude.{Result, Ok, Err, Option, Some as some, None as nothing, is_some}
 use Rattle.std.specs.Result.{is_err}
 
 pub err_of : {T E : Type 0} (r : Result T E) → is_err r ≡ true → (e : E) × (r ≡ Err e)
@@ -17,3 +17,11 @@ no_err p h = true≢false (sym (ap is_err p) ∙ h)
 
 pub no_ok : {T E : Type 0} {r : Result T E} {x : T} → r ≡ Ok x → is_err r ≡ true → ⊥
 no_ok p h = false≢true (sym (ap is_err p) ∙ h)
+
+pub some_of : {A : Type 0} (o : Option A) {b : Bool} → b ≡ is_some o → b ≡ true → (a : A) × (o ≡ some a)
+some_of (some a) e h = (a, refl)
+some_of nothing e h = absurd (false≢true (sym e ∙ h))
+
+pub none_of : {A : Type 0} (o : Option A) {b : Bool} → b ≡ is_some o → b ≡ false → o ≡ nothing
+none_of (some a) e h = absurd (true≢false (sym e ∙ h))
+none_of nothing e h = refl

@@ -19,15 +19,16 @@ use Rattle.state.specs.declared.sizes.Sizes.{Sizes}
 use Rattle.state.specs.Held.{Names}
 use Rattle.state.specs.Used.{goals_now}
 use Rattle.state.specs.Numbered.{length_numbers}
-use Rattle.std.specs.Prelude.{Ok, Err}
+use Rattle.std.specs.Prelude.{Ok, Err, Result}
 use Rattle.questions.specs.declared.Question.{Question}
 use Rattle.questions.specs.Numbers.{number_of, detail_of}
 use Rattle.forms.specs.declared.stating.Stated.{Stated}
 use Rattle.forms.specs.Halted.{ReadsForm, Halts}
 use Rattle.forms.specs.Stating.{stating, StatedRead}
-use Rattle.forms.specs.Goals.{GoalPlace, AddsGoal, PlacedBy, GoalAdded}
+use Rattle.cells.specs.Cleared.{ClearedBy}
+use Rattle.forms.specs.Goals.{GoalPlace, AddsGoal, PlacedBy, GoalAdded, AimedBy}
 use Rattle.forms.proofs.GoalReads.{after_judgment, goal_with, Named, named_halts, named_room, named_added}
-use Rattle.forms.proofs.Tails.{tailed, tail_filled}
+use Rattle.forms.proofs.Tails.{tailed, tail_filled, tail_again, tailed_same}
 
 module _ {K : Names} {rows : List ℕ} {n : Sizes} {I W : List ℕ} {m : Mark} {cells : List ℕ} (g : AddsGoal K rows n I W m cells 4) where
   abbrev pub form_given : ReadsForm K n I W m cells 4
@@ -56,12 +57,12 @@ module _ {K : Names} {rows : List ℕ} {n : Sizes} {I W : List ℕ} {m : Mark} {
           }
 
       module _ {after : List ℕ} {k : Sizes} where
-        pub with_halts : (q : Question) → ((h : GoalPlace K.text rows n cells) (hs : Trees) (t : Tree) → r.listed ≡ count_trees hs →
+        with_halts : (q : Question) → ((h : GoalPlace K.text rows n cells) (hs : Trees) (t : Tree) → r.listed ≡ count_trees hs →
             PlacedBy K.text rows after n k r.judgment h.S hs t (add_goal (item h.xs 1) hs t h.S) (Err q)) →
             Halts I W J X m g.S (goal a_goal_with g.xs g.S) (number_of q) (detail_of q) new × (after ≡ rows) × (k ≡ n)
         with_halts q c = named_halts g (omega arith) with_named with_read.count after k (Err q) c refl
 
-        pub with_added : {u : Unit {0}} → ((h : GoalPlace K.text rows n cells) (hs : Trees) (t : Tree) → r.listed ≡ count_trees hs →
+        with_added : {u : Unit {0}} → ((h : GoalPlace K.text rows n cells) (hs : Trees) (t : Tree) → r.listed ≡ count_trees hs →
             PlacedBy K.text rows after n k r.judgment h.S hs t (add_goal (item h.xs 1) hs t h.S) (Ok u)) → (lists : List ℕ) {last : List ℕ} → length lists ≡ ENTRIES →
             drop n.entries lists ≡ replicate (ENTRIES - n.entries) 0 → length out ≡ length (take (length lists - n.entries) (drop n.entries lists)) →
             last ≡ tailed lists n.entries out →
@@ -70,3 +71,13 @@ module _ {K : Names} {rows : List ℕ} {n : Sizes} {I W : List ℕ} {m : Mark} {
             named_added g (omega arith) with_named with_read.count after k (Ok u) c refl lists last
             (e ∙ tail_filled lists ENTRIES long n.entries g.fits zero (numbers (made J X new) with_read.trees) with_read.cells_are o
             (omega (arith, named_room g (omega arith) with_named with_read.count after k (Ok u) c refl, length_numbers (made J X new) with_read.trees)))
+
+      -- where the goal is refused, the lists are cleared
+      pub with_either : (after : List ℕ) (k : Sizes) (o : Result (Unit {0}) Question) → ((h : GoalPlace K.text rows n cells) (hs : Trees) (t : Tree) → r.listed ≡ count_trees hs →
+          PlacedBy K.text rows after n k r.judgment h.S hs t (add_goal (item h.xs 1) hs t h.S) o) → (lists : List ℕ) → length lists ≡ ENTRIES →
+          drop n.entries lists ≡ replicate (ENTRIES - n.entries) 0 → length out ≡ length (take (length lists - n.entries) (drop n.entries lists)) →
+          {L : List ℕ} (last : List ℕ) → L ≡ tailed lists n.entries out → ClearedBy 0 o (take (length L - n.entries) (drop n.entries L)) last →
+          AimedBy K.text rows after lists (tailed L n.entries last) n k I W J X m new g.S (goal a_goal_with g.xs g.S) o
+      with_either after k (Ok u) c lists long zero w {L} last e d = with_added c lists long zero w (tailed_same L n.entries d ∙ e)
+      with_either after k (Err q) c lists long zero w last e d =
+          let h = with_halts q c in (h.0, h.1, tail_again lists ENTRIES long n.entries g.fits zero out w e d, h.2)

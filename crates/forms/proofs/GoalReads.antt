@@ -1,9 +1,9 @@
 -- The forms of goals, from reading to the row: what the judgments say of the form, and the lists behind the entries. Assumes nothing.
 use mathlib.Core.Path.{◌≡◌, refl, sym, ◌∙◌, subst}
 use mathlib.Core.List.{List}
-use Prim.Native.Nat.{ℕ, ◌+◌, ◌-◌, ◌^◌, ◌<◌, ◌≤◌}
+use Prim.Native.Nat.{ℕ, ◌+◌, ◌^◌, ◌<◌, ◌≤◌}
 use native.Mathlib.Omega.{arith}
-use lib.ListN.{length, take, drop}
+use lib.ListN.{drop}
 use lib.Seq.{sets}
 use Rattle.rules.specs.Limits.{ENTRIES}
 use Rattle.rules.specs.Out.{Out, then}
@@ -20,7 +20,6 @@ use Rattle.rules.specs.Laws.Sound.{sound}
 use Rattle.rules.proofs.Laws.ReadWalk.{judgment_keeps}
 use Rattle.sexp.specs.Encode.{encodes}
 use Rattle.sexp.specs.Items.{place}
-use Rattle.sexp.specs.NthItem.{place_high}
 use Rattle.terms.specs.declared.store.Mark.{Mark}
 use Rattle.terms.specs.Table.{made, tree}
 use Rattle.state.specs.declared.sizes.Sizes.{Sizes}
@@ -132,12 +131,9 @@ none_count : 0 ≡ count_trees none
 unfolding count_trees
 none_count = refl
 
-module _ {K : Names} {rows : List ℕ} {n : Sizes} {I W : List ℕ} {m : Mark} {cells : List ℕ} (g : AddsGoal K rows n I W m cells 3) {at : ℕ}
-    (a : (ys : Sexps) → cells ≡ encodes ys → at ≡ place ys 2) where
-  pub plain_high : at ≤ length cells
-  plain_high = place_high g.holds 2 a
-
-  abbrev pub plain_given : ReadsItem K n I W m (take (length cells - at) (drop at cells))
+module _ {K : Names} {rows : List ℕ} {n : Sizes} {I W : List ℕ} {m : Mark} {cells : List ℕ} (g : AddsGoal K rows n I W m cells 3) {behind : List ℕ}
+    (a : (ys : Sexps) → cells ≡ encodes ys → behind ≡ drop (place ys 2) cells) where
+  abbrev pub plain_given : ReadsItem K n I W m behind
   plain_given = reads_item g.reads (item_holds g.holds 2 (omega (arith, g.many)) a)
 
   plain_starts : Reached I W m g.S (goal a_goal g.xs g.S) I W m
@@ -153,13 +149,13 @@ module _ {K : Names} {rows : List ℕ} {n : Sizes} {I W : List ℕ} {m : Mark} {
       start = reached_start g.reads.good (reads_ready g.reads) g.store (λ T. then (making (judgment g.S (item g.xs 2)) T) (after_judgment g.xs none))
 
   module _ {J X : List ℕ} {new : Mark} where
-    pub plain_stops : {q d : ℕ} → ((h : ReadsItem K n I W m (take (length cells - at) (drop at cells))) → Stopped I W J X m (judgment h.S h.x (made I W m)) q d new) →
+    pub plain_stops : {q d : ℕ} → ((h : ReadsItem K n I W m behind) → Stopped I W J X m (judgment h.S h.x (made I W m)) q d new) →
         Halts I W J X m g.S (goal a_goal g.xs g.S) q d new
     plain_stops b =
         reached_stopped (judgment g.S (item g.xs 2)) (after_judgment g.xs none) plain_starts (judgment_keeps g.S (item g.xs 2) (made I W m) (reads_ready g.reads))
         (b plain_given)
 
-    module _ {j : ℕ} (b : (h : ReadsItem K n I W m (take (length cells - at) (drop at cells))) → TermRead I W J X m (judgment h.S h.x (made I W m)) j new) where
+    module _ {j : ℕ} (b : (h : ReadsItem K n I W m behind) → TermRead I W J X m (judgment h.S h.x (made I W m)) j new) where
       plain_read : TermRead I W J X m (judgment g.S (item g.xs 2) (made I W m)) j new
       plain_read = b plain_given
 

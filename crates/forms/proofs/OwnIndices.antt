@@ -2,9 +2,9 @@
 use mathlib.Core.Path.{◌≡◌, sym, ap, ◌∙◌}
 use Rattle.std.specs.Prelude.{Some as some, None as nothing, Option}
 use mathlib.Core.List.{List}
-use Prim.Native.Nat.{ℕ, ◌-◌}
+use Prim.Native.Nat.{ℕ}
 use lib.Dec.{eqb}
-use lib.ListN.{length, take, drop}
+use lib.ListN.{length, drop}
 use borrow.Author.Tests.{eq-eqb, ne_eqb}
 use Rattle.rules.specs.Out.{Out, ok, refuse, then, ask, found}
 use Rattle.rules.specs.Sexp.{Sexp, Sexps, cons, item, rest}
@@ -30,15 +30,15 @@ module _ (xs : Sexps) (S : State) where
   next_some e =
       ap (λ (o : Out State ℕ). then o (λ i. ask 32 (eqb i (length S.facts)))) (index_found 31 (item xs 1) S ∙ ap (λ o. found 31 o S) e)
 
-module _ {text cells : List ℕ} {n : Sizes} (g : OwnIndex text cells n) {at : ℕ} (a : (ys : Sexps) → cells ≡ encodes ys → at ≡ place ys 1) where
-  own_holds : Holds text (take (length cells - at) (drop at cells)) (cons (item g.xs 1) (rest g.xs 2))
+module _ {text cells : List ℕ} {n : Sizes} (g : OwnIndex text cells n) {behind : List ℕ} (a : (ys : Sexps) → cells ≡ encodes ys → behind ≡ drop (place ys 1) cells) where
+  own_holds : Holds text behind (cons (item g.xs 1) (rest g.xs 2))
   own_holds = item_holds g.holds 1 g.many a
 
   -- what `index` is given
-  pub own_item : FirstItem text (take (length cells - at) (drop at cells))
+  pub own_item : FirstItem text behind
   own_item = record { x = item g.xs 1; ys = rest g.xs 2; holds = own_holds }
 
-  module _ {r : Option ℕ} (f : (x : Sexp) (ys : Sexps) → Holds text (take (length cells - at) (drop at cells)) (cons x ys) → r ≡ (index_in x)) where
+  module _ {r : Option ℕ} (f : (x : Sexp) (ys : Sexps) → Holds text behind (cons x ys) → r ≡ (index_in x)) where
     pub own_missing : r ≡ nothing → next g.xs g.S ≡ refuse 31 0 g.S
     own_missing e = next_none g.xs g.S (found_missing (index_in (item g.xs 1)) r (f _ _ own_holds) e)
 

@@ -1,12 +1,12 @@
 -- What `result` answers, question by question, and what the code finds for it. Assumes nothing.
-use mathlib.Core.Path.{◌≡◌, sym, ap, ◌∙◌}
+use mathlib.Core.Path.{◌≡◌, sym, ap, ◌∙◌, subst}
 use mathlib.Core.Bool.{Bool, true, false, not}
 use Rattle.std.specs.Prelude.{Option, Some as some, None as nothing}
 use mathlib.Core.List.{List}
-use Prim.Native.Nat.{ℕ, ◌+◌, ◌-◌, ◌*◌, ◌<◌, ◌≤◌}
+use Prim.Native.Nat.{ℕ, ◌+◌, ◌*◌, ◌<◌}
 use native.Mathlib.Omega.{arith}
 use lib.Dec.{eqb}
-use lib.ListN.{length, take, drop, set}
+use lib.ListN.{length, drop, set}
 use borrow.Author.Tests.{eq-eqb, ne_eqb, not-true, not-false}
 use Rattle.rules.specs.Out.{Out, ok, refuse, then, ask, found}
 use Rattle.rules.specs.Find.{entry, all, change}
@@ -18,11 +18,12 @@ use Rattle.rules.specs.State.{State, Goal, goal_named}
 use Rattle.rules.specs.Reference.{Ref, reference}
 use Rattle.rules.specs.Forms.{with_made, with_goals, making, listed, taken_goal, result}
 use Rattle.rules.specs.Laws.Find.{first_some}
-use Rattle.rules.specs.Laws.Sexp.{item_rest}
 use Rattle.rules.proofs.Laws.ReadWalk.{reference_keeps}
 use Rattle.sexp.specs.Encode.{encodes}
 use Rattle.sexp.specs.Items.{Holds, Held, place}
-use Rattle.sexp.specs.NthItem.{place_high, rest_holds}
+use Rattle.sexp.specs.Each.{HeadIs}
+use Rattle.referring.specs.Laws.Behind.{from_holds, head_item}
+use denote.Ref.{Bor}
 use Rattle.terms.specs.declared.store.Mark.{Mark}
 use Rattle.terms.specs.Table.{made, tree}
 use Rattle.terms.specs.On.{Stopped}
@@ -124,85 +125,83 @@ module _ {K : Names} {rows facts lists : List ℕ} {n : Sizes} {I W : List ℕ} 
   first_halts : {q d : ℕ} → answer ≡ refuse q d g.S → Halts I W I W m g.S answer q d m
   first_halts e = halts_first g.refers.reads.good (refers_ready g.refers) g.store e
 
-  module _ {at : ℕ} (a : (ys : Sexps) → cells ≡ encodes ys → at ≡ place ys 1) where
-    pub name_high : at ≤ length cells
-    name_high = place_high g.holds 1 a
-
-    -- the name, and what is behind it
-    abbrev behind : List ℕ
-    behind = take (length cells - at) (drop at cells)
-
+  module _ {behind : List ℕ} (a : (ys : Sexps) → cells ≡ encodes ys → behind ≡ drop (place ys 1) cells) where
     pub name_held : Held K.text behind
-    name_held = (rest g.xs 1, rest_holds g.holds 1 a)
+    name_held = (rest g.xs 1, from_holds g.holds 1 a)
 
-    pub no_name : ((ys : Sexps) → Holds K.text behind ys → (zs : Sexps) × (item ys 0 ≡ list zs)) → Halts I W I W m g.S (result g.xs g.S) 50 0 m
-    no_name b = let y = b (rest g.xs 1) (rest_holds g.holds 1 a) in first_halts (result_unnamed g.xs g.S (sym (item_rest g.xs 1 0) ∙ y.1))
+    -- what `head` answers
+    module _ (o : Option (Bor (List ℕ))) (b : (ys : Sexps) → Holds K.text behind ys → HeadIs (item ys 0) o) where
+      told : HeadIs (item g.xs 1) o
+      told = head_item g.holds 1 a o b
 
-    module _ {name : List ℕ} (b : (ys : Sexps) → Holds K.text behind ys → (p : ℕ) × (item ys 0 ≡ atom p name)) where
-      name_is : (p : ℕ) × (item g.xs 1 ≡ atom p name)
-      name_is = let y = b (rest g.xs 1) (rest_holds g.holds 1 a) in (y.0, sym (item_rest g.xs 1 0) ∙ y.1)
+      pub no_name : o ≡ nothing → Halts I W I W m g.S (result g.xs g.S) 50 0 m
+      no_name e = first_halts (result_unnamed g.xs g.S (subst (HeadIs (item g.xs 1)) e told).1)
 
-      module _ {r : Option ℕ} (l : (M : Made) (gs : List Goal) → GoalsHeld K.goals rows n.goals M gs → r ≡ (goal_named gs name)) where
-        looked : r ≡ (goal_named g.S.goals name)
-        looked = l (made I W m) g.S.goals g.held
+      module _ {bytes : Bor (List ℕ)} (e : o ≡ some bytes) where
+        abbrev named : List ℕ
+        named = bytes.now
 
-        pub no_goal_lem : r ≡ nothing → Halts I W I W m g.S (result g.xs g.S) 50 0 m
-        no_goal_lem q = first_halts (result_unknown_lem g.xs g.S name_is.1 (sym looked ∙ q))
+        name_is : (p : ℕ) × (item g.xs 1 ≡ atom p named)
+        name_is = subst (HeadIs (item g.xs 1)) e told
 
-        module _ {k : ℕ} (q : r ≡ some k) where
-          is_goal : goal_named g.S.goals name ≡ some k
-          is_goal = sym looked ∙ q
+        module _ {r : Option ℕ} (l : (M : Made) (gs : List Goal) → GoalsHeld K.goals rows n.goals M gs → r ≡ (goal_named gs named)) where
+          looked : r ≡ (goal_named g.S.goals named)
+          looked = l (made I W m) g.S.goals g.held
 
-          pub goal_there : k < n.goals
-          goal_there = omega (arith, named_inside g.S.goals name k is_goal, g.held.many)
+          pub no_goal_lem : r ≡ nothing → Halts I W I W m g.S (result g.xs g.S) 50 0 m
+          no_goal_lem q = first_halts (result_unknown_lem g.xs g.S name_is.1 (sym looked ∙ q))
 
-          -- what the readers of a goal ask
-          pub goal_asks : GoalAt rows k
-          goal_asks = (goals_long g.held, omega (arith, goal_there, g.held.few))
+          module _ {k : ℕ} (q : r ≡ some k) where
+            is_goal : goal_named g.S.goals named ≡ some k
+            is_goal = sym looked ∙ q
 
-          row : GoalRow rows lists (made I W m) g.S.goals k (goal_of g.S k)
-          row = goal_row_of k g.refers.recorded g.held goal_there
+            pub goal_there : k < n.goals
+            goal_there = omega (arith, named_inside g.S.goals named k is_goal, g.held.many)
 
-          module _ {t : Bool} (u : t ≡ not (eqb (cell 6 rows k 5) 0)) where
-            pub goal_taken : t ≡ true → Halts I W I W m g.S (result g.xs g.S) 50 0 m
-            goal_taken v = first_halts (result_twice_lem g.xs g.S name_is.1 is_goal row.is (sym row.taken ∙ sym u ∙ v))
+            -- what the readers of a goal ask
+            pub goal_asks : GoalAt rows k
+            goal_asks = (goals_long g.held, omega (arith, goal_there, g.held.few))
 
-            pub goal_open : t ≡ false → Aiming g k
-            goal_open v =
-                record {
-                  there = goal_there;
-                  row = row;
-                  on = reopen (result_open g.xs g.S name_is.1 is_goal row.is (sym row.taken ∙ sym u ∙ v));
-                }
-              where
-                reopen : result g.xs g.S ≡ then (making (reference g.S (item g.xs 2)) g.S) (after_ref g.xs g.S k (goal_of g.S k)) →
-                    Reached I W m g.S (result g.xs g.S) I W m
-                    (then (making (reference g.S (item g.xs 2)) (with_made g.S (made I W m))) (after_ref g.xs g.S k (goal_of g.S k)))
-                reopen e =
-                    let s = reached_start g.refers.reads.good (refers_ready g.refers) g.store
-                    (λ T. then (making (reference g.S (item g.xs 2)) T) (after_ref g.xs g.S k (goal_of g.S k))) in
-                    record { makes = s.makes; here = e ∙ s.here }
+            row : GoalRow rows lists (made I W m) g.S.goals k (goal_of g.S k)
+            row = goal_row_of k g.refers.recorded g.held goal_there
+
+            module _ {t : Bool} (u : t ≡ not (eqb (cell 6 rows k 5) 0)) where
+              pub goal_taken : t ≡ true → Halts I W I W m g.S (result g.xs g.S) 50 0 m
+              goal_taken v = first_halts (result_twice_lem g.xs g.S name_is.1 is_goal row.is (sym row.taken ∙ sym u ∙ v))
+
+              pub goal_open : t ≡ false → Aiming g k
+              goal_open v =
+                  record {
+                    there = goal_there;
+                    row = row;
+                    on = reopen (result_open g.xs g.S name_is.1 is_goal row.is (sym row.taken ∙ sym u ∙ v));
+                  }
+                where
+                  reopen : result g.xs g.S ≡ then (making (reference g.S (item g.xs 2)) g.S) (after_ref g.xs g.S k (goal_of g.S k)) →
+                      Reached I W m g.S (result g.xs g.S) I W m
+                      (then (making (reference g.S (item g.xs 2)) (with_made g.S (made I W m))) (after_ref g.xs g.S k (goal_of g.S k)))
+                  reopen e =
+                      let s = reached_start g.refers.reads.good (refers_ready g.refers) g.store
+                      (λ T. then (making (reference g.S (item g.xs 2)) T) (after_ref g.xs g.S k (goal_of g.S k))) in
+                      record { makes = s.makes; here = e ∙ s.here }
 
 -- The reference ---------------------------------------------------------------------------------------------------------------------
 
-module _ {K : Names} {rows facts lists : List ℕ} {n : Sizes} {I W : List ℕ} {m : Mark} {cells : List ℕ} (g : TakesResult K rows facts lists n I W m cells) {at : ℕ}
-    (c : (ys : Sexps) → cells ≡ encodes ys → at ≡ place ys 2) where
-  pub ref_high : at ≤ length cells
-  ref_high = place_high g.holds 2 c
-
-  abbrev pub ref_given : RefersItem K facts n I W m (take (length cells - at) (drop at cells))
+module _ {K : Names} {rows facts lists : List ℕ} {n : Sizes} {I W : List ℕ} {m : Mark} {cells : List ℕ} (g : TakesResult K rows facts lists n I W m cells) {behind : List ℕ}
+    (c : (ys : Sexps) → cells ≡ encodes ys → behind ≡ drop (place ys 2) cells) where
+  abbrev pub ref_given : RefersItem K facts n I W m behind
   ref_given = refers_item g.refers (item_holds g.holds 2 (omega (arith, g.many)) c)
 
   module _ {k : ℕ} (o : Aiming g k) {J X : List ℕ} {new : Mark} where
     pub ref_stops : {q d : ℕ} →
-        ((h : RefersItem K facts n I W m (take (length cells - at) (drop at cells))) → Stopped I W J X m (reference h.S h.x (made I W m)) q d new) →
+        ((h : RefersItem K facts n I W m behind) → Stopped I W J X m (reference h.S h.x (made I W m)) q d new) →
         Halts I W J X m g.S (result g.xs g.S) q d new
     ref_stops b =
         reached_stopped (reference g.S (item g.xs 2)) (after_ref g.xs g.S k (goal_of g.S k)) o.on
         (reference_keeps g.S (item g.xs 2) (made I W m) (refers_ready g.refers)) (b ref_given)
 
     module _ {t i : ℕ} {bare : Bool}
-        (b : (h : RefersItem K facts n I W m (take (length cells - at) (drop at cells))) → RefRead I W J X m h.S (reference h.S h.x (made I W m)) t i bare new) where
+        (b : (h : RefersItem K facts n I W m behind) → RefRead I W J X m h.S (reference h.S h.x (made I W m)) t i bare new) where
       pub ref_read : RefRead I W J X m g.S (reference g.S (item g.xs 2) (made I W m)) t i bare new
       ref_read = b ref_given
 

@@ -59,8 +59,8 @@ pub entries_inside : {facts footings lists : List ℕ} {n : Sizes} {M : Made} {S
 entries_inside h = omega (arith, lists_long h, entries_fit h)
 
 -- what the generalised variables are read from
-abbrev pub vars_given : {goals text vars cells : List ℕ} {known : ℕ} (g : VarsItems goals text vars known cells) → 5 ≤ count g.xs → {at : ℕ} →
-    ((ys : Sexps) → cells ≡ encodes ys → at ≡ place ys 4) → VarsItem goals text vars known (take (length cells - at) (drop at cells))
+abbrev pub vars_given : {goals text vars cells : List ℕ} {known : ℕ} (g : VarsItems goals text vars known cells) → 5 ≤ count g.xs → {behind : List ℕ} →
+    ((ys : Sexps) → cells ≡ encodes ys → behind ≡ drop (place ys 4) cells) → VarsItem goals text vars known behind
 vars_given g m p = record { S = g.S; x = item g.xs 4; ys = rest g.xs 5; vars_are = g.vars_are; holds = item_holds g.holds 4 (omega (arith, m)) p }
 
 abbrev pub form_of : {K : Names} {facts lists : List ℕ} {n : Sizes} {I W : List ℕ} {m : Mark} {cells : List ℕ} →

@@ -1,9 +1,9 @@
 -- What a form lists and states, item by item. Assumes nothing.
 use mathlib.Core.Path.{◌≡◌, sym, ap, ◌∙◌}
 use mathlib.Core.List.{List}
-use Prim.Native.Nat.{ℕ, ◌-◌}
+use Prim.Native.Nat.{ℕ}
 use native.Mathlib.Omega.{arith}
-use lib.ListN.{length, take, drop}
+use lib.ListN.{length, drop}
 use Rattle.rules.specs.Out.{Out, then}
 use Rattle.rules.specs.Sexp.{Sexps, item}
 use Rattle.rules.specs.Tree.{Tree, Trees}
@@ -30,10 +30,10 @@ use Rattle.forms.specs.Halted.{ReadsForm, Halts}
 use Rattle.forms.specs.Stating.{stating, StatedRead}
 use Rattle.forms.specs.Laws.Making.{Reached, reached_start, reached_went, reached_stopped, item_holds}
 
-module _ {K : Names} {n : Sizes} {I W : List ℕ} {m : Mark} {cells : List ℕ} (g : ReadsForm K n I W m cells 4) {at : ℕ}
-    (a : (ys : Sexps) → cells ≡ encodes ys → at ≡ place ys 2) where
+module _ {K : Names} {n : Sizes} {I W : List ℕ} {m : Mark} {cells : List ℕ} (g : ReadsForm K n I W m cells 4) {behind : List ℕ}
+    (a : (ys : Sexps) → cells ≡ encodes ys → behind ≡ drop (place ys 2) cells) where
   -- what those that are listed are read from
-  abbrev pub listed_given : ReadsItem K n I W m (take (length cells - at) (drop at cells))
+  abbrev pub listed_given : ReadsItem K n I W m behind
   listed_given = reads_item g.reads (item_holds g.holds 2 (omega (arith, g.many)) a)
 
   -- next: what the definition does with them
@@ -45,14 +45,14 @@ module _ {K : Names} {n : Sizes} {I W : List ℕ} {m : Mark} {cells : List ℕ} 
     listed_starts = reached_start g.reads.good (reads_ready g.reads) g.store (λ T. then (making (judgments g.S (item g.xs 2)) T) stated_next)
 
     pub listed_stop : {J X before out : List ℕ} {k : Mark} {q d : ℕ} →
-        ((h : ReadsItem K n I W m (take (length cells - at) (drop at cells))) → Stopped I W J X m (judgments h.S h.x (made I W m)) q d k × (out ≡ before)) →
+        ((h : ReadsItem K n I W m behind) → Stopped I W J X m (judgments h.S h.x (made I W m)) q d k × (out ≡ before)) →
         Halts I W J X m g.S (stating g.xs g.S next) q d k × (out ≡ before)
     listed_stop b =
         let s = b listed_given in
         (reached_stopped (judgments g.S (item g.xs 2)) stated_next listed_starts (judgments_keeps g.S (item g.xs 2) (made I W m) (reads_ready g.reads)) s.0, s.1)
 
   module _ {J X out : List ℕ} {k : Mark} {many : ℕ}
-      (b : (h : ReadsItem K n I W m (take (length cells - at) (drop at cells))) → JudgmentsRead I W J X m (judgments h.S h.x (made I W m)) out many k) where
+      (b : (h : ReadsItem K n I W m behind) → JudgmentsRead I W J X m (judgments h.S h.x (made I W m)) out many k) where
     listed_read : JudgmentsRead I W J X m (judgments g.S (item g.xs 2) (made I W m)) out many k
     listed_read = b listed_given
 
@@ -68,21 +68,21 @@ module _ {K : Names} {n : Sizes} {I W : List ℕ} {m : Mark} {cells : List ℕ} 
         reached_went (judgments g.S (item g.xs 2)) (stated_next next) (listed_starts next)
         (judgments_keeps g.S (item g.xs 2) (made I W m) (reads_ready g.reads)) listed_read.went
 
-    module _ {last : ℕ} (f : (ys : Sexps) → cells ≡ encodes ys → last ≡ place ys 3) where
+    module _ {last : List ℕ} (f : (ys : Sexps) → cells ≡ encodes ys → last ≡ drop (place ys 3) cells) where
       -- what the judgment behind them is read from
-      abbrev pub stated_given : ReadsItem K n J X k (take (length cells - last) (drop last cells))
+      abbrev pub stated_given : ReadsItem K n J X k last
       stated_given = reads_item listed_on (item_holds g.holds 3 (omega (arith, g.many)) f)
 
       module _ (next : Trees → Tree → State → Out State (Unit {0})) {Y Z : List ℕ} {new : Mark} where
         pub stated_stops : {q d : ℕ} →
-            ((h : ReadsItem K n J X k (take (length cells - last) (drop last cells))) → Stopped J X Y Z k (judgment h.S h.x (made J X k)) q d new) →
+            ((h : ReadsItem K n J X k last) → Stopped J X Y Z k (judgment h.S h.x (made J X k)) q d new) →
             Halts I W Y Z m g.S (stating g.xs g.S next) q d new
         stated_stops c =
             reached_stopped (judgment g.S (item g.xs 3)) (next listed_read.trees) (listed_reached next)
             (judgment_keeps g.S (item g.xs 3) (made J X k) (reads_ready listed_on)) (c stated_given)
 
         pub stated_read : {j : ℕ} →
-            ((h : ReadsItem K n J X k (take (length cells - last) (drop last cells))) → TermRead J X Y Z k (judgment h.S h.x (made J X k)) j new) →
+            ((h : ReadsItem K n J X k last) → TermRead J X Y Z k (judgment h.S h.x (made J X k)) j new) →
             StatedRead I W Y Z m g.S (stating g.xs g.S next) next out (record { judgment = j; listed = many }) new
         stated_read {j} c =
             let read : TermRead J X Y Z k (judgment g.S (item g.xs 3) (made J X k)) j new = c stated_given in

@@ -1,9 +1,9 @@
 -- What `add_hyp` answers. Assumes nothing.
 use mathlib.Core.Path.{◌≡◌, refl, ◌∙◌, subst}
 use mathlib.Core.List.{List, []}
-use Prim.Native.Nat.{ℕ, ◌+◌, ◌-◌, ◌*◌}
+use Prim.Native.Nat.{ℕ, ◌+◌, ◌*◌}
 use native.Mathlib.Omega.{arith}
-use lib.ListN.{length, take, drop}
+use lib.ListN.{length, drop}
 use Rattle.std.specs.Prelude.{Result, Ok, Err}
 use Rattle.rules.specs.Limits.{FACTS}
 use Rattle.rules.specs.Out.{Out, then}
@@ -50,10 +50,10 @@ hyp_begun xs S = refl
 
 -- `add_hyp` --------------------------------------------------------------------------------------------------------------------------------
 
-module _ {K : Names} {facts lists : List ℕ} {n : Sizes} {I W : List ℕ} {m : Mark} {cells : List ℕ} (g : AddsFact K facts lists n I W m cells 3) {at : ℕ}
-    (p : (ys : Sexps) → cells ≡ encodes ys → at ≡ place ys 2) where
+module _ {K : Names} {facts lists : List ℕ} {n : Sizes} {I W : List ℕ} {m : Mark} {cells : List ℕ} (g : AddsFact K facts lists n I W m cells 3) {behind : List ℕ}
+    (p : (ys : Sexps) → cells ≡ encodes ys → behind ≡ drop (place ys 2) cells) where
   -- what the judgment is read from
-  abbrev pub hyp_item : ReadsItem K n I W m (take (length cells - at) (drop at cells))
+  abbrev pub hyp_item : ReadsItem K n I W m behind
   hyp_item = reads_item g.refers.reads (item_holds g.holds 2 (omega (arith, g.many)) p)
 
   hyp_starts : Reached I W m g.S (add_hyp g.xs g.S) I W m (then (making (judgment g.S (item g.xs 2)) (with_made g.S (made I W m))) (adds_fact g.S none []))
@@ -62,13 +62,13 @@ module _ {K : Names} {facts lists : List ℕ} {n : Sizes} {I W : List ℕ} {m : 
       record { makes = z.makes; here = hyp_begun g.xs g.S ∙ z.here }
 
   module _ {J X : List ℕ} {new : Mark} where
-    pub hyp_no : {q d : ℕ} → ((k : ReadsItem K n I W m (take (length cells - at) (drop at cells))) → Stopped I W J X m (judgment k.S k.x (made I W m)) q d new) →
+    pub hyp_no : {q d : ℕ} → ((k : ReadsItem K n I W m behind) → Stopped I W J X m (judgment k.S k.x (made I W m)) q d new) →
         Halts I W J X m g.S (add_hyp g.xs g.S) q d new
     hyp_no f =
         reached_stopped (judgment g.S (item g.xs 2)) (adds_fact g.S none []) hyp_starts (judgment_keeps g.S (item g.xs 2) (made I W m) (reads_ready g.refers.reads))
         (f hyp_item)
 
-    module _ {j : ℕ} (f : (k : ReadsItem K n I W m (take (length cells - at) (drop at cells))) → TermRead I W J X m (judgment k.S k.x (made I W m)) j new) where
+    module _ {j : ℕ} (f : (k : ReadsItem K n I W m behind) → TermRead I W J X m (judgment k.S k.x (made I W m)) j new) where
       hyp_read : TermRead I W J X m (judgment g.S (item g.xs 2) (made I W m)) j new
       hyp_read = f hyp_item
 

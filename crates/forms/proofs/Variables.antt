@@ -1,5 +1,5 @@
 -- What `add_var` answers, question by question, and what the code finds. Assumes nothing.
-use mathlib.Core.Path.{◌≡◌, refl, sym, ap, ◌∙◌}
+use mathlib.Core.Path.{◌≡◌, refl, sym, ap, ◌∙◌, subst}
 use mathlib.Core.Bool.{Bool, true, false, not, ◌&&◌}
 use Rattle.std.proofs.Math.Bool.{not-not}
 use Rattle.std.specs.Prelude.{Option, Some as some, None as nothing, is_some}
@@ -20,11 +20,13 @@ use Rattle.rules.specs.Declare.{is_new}
 use Rattle.rules.specs.State.{State, Var, var_named}
 use Rattle.rules.specs.Forms.{with_vars, add_var}
 use Rattle.rules.specs.Laws.Find.{first_some}
-use Rattle.rules.specs.Laws.Sexp.{item_rest}
 use Rattle.sexp.specs.Encode.{encodes}
 use Rattle.sexp.specs.Items.{Holds, Held, item_of, place}
 use Rattle.sexp.specs.FoundLaws.{found_at}
-use Rattle.sexp.specs.NthItem.{nth_text, nth_part, place_high, rest_holds}
+use Rattle.sexp.specs.NthItem.{nth_text, nth_part}
+use Rattle.sexp.specs.Each.{HeadIs}
+use Rattle.referring.specs.Laws.Behind.{from_holds, head_item}
+use denote.Ref.{Bor}
 use Rattle.sexp.specs.AtomText.{AtomText, atom_part, atom_high, atom_named}
 use Rattle.sexp.specs.declared.items.Item.{Item}
 use Rattle.sexp.specs.declared.items.Item.TheVariants.{Atom, List as Part}
@@ -159,81 +161,81 @@ module _ {theory goals text sorts symbols vars : List ℕ} {n : Sizes} {cells : 
       pub var_name_lem : AtomText text (item g.xs 1) start
       var_name_lem = nth_text g.holds 1 a e
 
-      module _ {at : ℕ} (b : (ys : Sexps) → cells ≡ encodes ys → at ≡ place ys 2) where
-        pub var_sort_high : at ≤ length cells
-        var_sort_high = place_high g.holds 2 b
-
-        -- the sort, and what is behind it
-        abbrev behind : List ℕ
-        behind = take (length cells - at) (drop at cells)
-
+      module _ {behind : List ℕ} (b : (ys : Sexps) → cells ≡ encodes ys → behind ≡ drop (place ys 2) cells) where
         pub var_sort_held : Held text behind
-        var_sort_held = (rest g.xs 2, rest_holds g.holds 2 b)
+        var_sort_held = (rest g.xs 2, from_holds g.holds 2 b)
 
-        -- the sort is a list
-        pub var_no_sort : (which : ℕ) → ((ys : Sexps) → Holds text behind ys → (zs : Sexps) × (item ys 0 ≡ list zs)) → add_var which g.xs g.S ≡ refuse 21 0 g.S
-        var_no_sort which f =
-            let y = f (rest g.xs 2) (rest_holds g.holds 2 b) in var_listed which g.xs g.S var_name_lem.is (sym (item_rest g.xs 2 0) ∙ y.1)
+        -- what `head` answers
+        module _ (o : Option (Bor (List ℕ))) (f : (ys : Sexps) → Holds text behind ys → HeadIs (item ys 0) o) where
+          told : HeadIs (item g.xs 2) o
+          told = head_item g.holds 2 b o f
 
-        module _ {ss : List ℕ} (f : (ys : Sexps) → Holds text behind ys → (p : ℕ) × (item ys 0 ≡ atom p ss)) where
-          var_sort_text : (p : ℕ) × (item g.xs 2 ≡ atom p ss)
-          var_sort_text = let y = f (rest g.xs 2) (rest_holds g.holds 2 b) in (y.0, sym (item_rest g.xs 2 0) ∙ y.1)
+          -- the sort is a list
+          pub var_no_sort : (which : ℕ) → o ≡ nothing → add_var which g.xs g.S ≡ refuse 21 0 g.S
+          var_no_sort which e = var_listed which g.xs g.S var_name_lem.is (subst (HeadIs (item g.xs 2)) e told).1
 
-          module _ {r : Option ℕ} (s : (T : Theory) → SortsHeld theory sorts n.sorts T.sorts → r ≡ (sort_named T ss)) where
-            sort_told : r ≡ (sort_named g.S.theory ss)
-            sort_told = s g.S.theory g.sorts_are
+          module _ {ss' : Bor (List ℕ)} (w : o ≡ some ss') where
+            abbrev ss : List ℕ
+            ss = ss'.now
 
-            pub var_sort_missing : (which : ℕ) → r ≡ nothing → add_var which g.xs g.S ≡ refuse 21 0 g.S
-            var_sort_missing which c = var_unsorted which g.xs g.S var_name_lem.is var_sort_text.1 (sym sort_told ∙ c)
+            var_sort_text : (p : ℕ) × (item g.xs 2 ≡ atom p ss)
+            var_sort_text = subst (HeadIs (item g.xs 2)) w told
 
-            module _ {k : ℕ} (c : r ≡ some k) where
-              sort_is : sort_named g.S.theory ss ≡ some k
-              sort_is = sym sort_told ∙ c
+            module _ {r : Option ℕ} (s : (T : Theory) → SortsHeld theory sorts n.sorts T.sorts → r ≡ (sort_named T ss)) where
+              sort_told : r ≡ (sort_named g.S.theory ss)
+              sort_told = s g.S.theory g.sorts_are
 
-              pub var_sort_small : k < 2 ^ 32
-              var_sort_small = omega (arith, sort_small g.S.theory g.sorts_are ss r sort_told c)
+              pub var_sort_missing : (which : ℕ) → r ≡ nothing → add_var which g.xs g.S ≡ refuse 21 0 g.S
+              var_sort_missing which c = var_unsorted which g.xs g.S var_name_lem.is var_sort_text.1 (sym sort_told ∙ c)
 
-              pub var_is_marked : (which : ℕ) {b : Bool} → b ≡ marked (letters (drop start text)) → b ≡ true → add_var which g.xs g.S ≡ refuse 21 0 g.S
-              var_is_marked which m t = var_marked_lem which g.xs g.S var_name_lem.is var_sort_text.1 sort_is (sym m ∙ t)
+              module _ {k : ℕ} (c : r ≡ some k) where
+                sort_is : sort_named g.S.theory ss ≡ some k
+                sort_is = sym sort_told ∙ c
 
-              module _ {mk : Bool} (m : mk ≡ marked (letters (drop start text))) (no : mk ≡ false)
-                  {end : ℕ} (d : end ≡ start + length (letters (drop start text))) {u : Bool}
-                  (v : (S : State) (inputs : List ℕ) → SymbolsHeld theory symbols inputs n.symbols S.theory.symbols → VarsHeld goals text vars n.vars S.vars →
-                  u ≡ free S (take (end - start) (drop start text))) where
-                free_told : u ≡ free g.S (letters (drop start text))
-                free_told = v g.S g.inputs g.symbols_are g.vars_are ∙ ap (free g.S) (atom_part text start end var_name_lem.inside d)
+                pub var_sort_small : k < 2 ^ 32
+                var_sort_small = omega (arith, sort_small g.S.theory g.sorts_are ss r sort_told c)
 
-                pub var_is_used : (which : ℕ) → u ≡ false → add_var which g.xs g.S ≡ refuse 21 0 g.S
-                var_is_used which t = var_used which g.xs g.S var_name_lem.is var_sort_text.1 sort_is (sym m ∙ no) (sym free_told ∙ t)
+                pub var_is_marked : (which : ℕ) {b : Bool} → b ≡ marked (letters (drop start text)) → b ≡ true → add_var which g.xs g.S ≡ refuse 21 0 g.S
+                var_is_marked which m t = var_marked_lem which g.xs g.S var_name_lem.is var_sort_text.1 sort_is (sym m ∙ t)
 
-                module _ (t : u ≡ true) where
-                  pub var_no_room : (which : ℕ) → VARIABLES ≤ n.vars → add_var which g.xs g.S ≡ refuse 60 7 g.S
-                  var_no_room which q =
-                      var_full which g.xs g.S var_name_lem.is var_sort_text.1 sort_is (sym m ∙ no) (sym free_told ∙ t)
-                      (omega (arith, g.vars_are.stand.many))
+                module _ {mk : Bool} (m : mk ≡ marked (letters (drop start text))) (no : mk ≡ false)
+                    {end : ℕ} (d : end ≡ start + length (letters (drop start text))) {u : Bool}
+                    (v : (S : State) (inputs : List ℕ) → SymbolsHeld theory symbols inputs n.symbols S.theory.symbols → VarsHeld goals text vars n.vars S.vars →
+                    u ≡ free S (take (end - start) (drop start text))) where
+                  free_told : u ≡ free g.S (letters (drop start text))
+                  free_told = v g.S g.inputs g.symbols_are g.vars_are ∙ ap (free g.S) (atom_part text start end var_name_lem.inside d)
 
-                  pub var_fits : n.vars < VARIABLES → VarAt vars n.vars × Fits4 k start end 0
-                  var_fits q = (
-                    (vars_long g.vars_are.stand, q),
-                    record {
-                      first = var_sort_small;
-                      second = omega (arith, var_name_lem.inside, g.short);
-                      third = omega (arith, atom_high text start end var_name_lem.inside d, g.short);
-                      fourth = omega arith;
-                    },
-                  )
+                  pub var_is_used : (which : ℕ) → u ≡ false → add_var which g.xs g.S ≡ refuse 21 0 g.S
+                  var_is_used which t = var_used which g.xs g.S var_name_lem.is var_sort_text.1 sort_is (sym m ∙ no) (sym free_told ∙ t)
 
-                  pub var_is_added : (which : ℕ) → n.vars < VARIABLES → {after : List ℕ} → after ≡ sets vars (4 * n.vars) (k ∷ which ∷ start ∷ end ∷ []) →
-                      VarAdded text vars after n which g.S (add_var which g.xs g.S)
-                  var_is_added which q o =
+                  module _ (t : u ≡ true) where
+                    pub var_no_room : (which : ℕ) → VARIABLES ≤ n.vars → add_var which g.xs g.S ≡ refuse 60 7 g.S
+                    var_no_room which q =
+                        var_full which g.xs g.S var_name_lem.is var_sort_text.1 sort_is (sym m ∙ no) (sym free_told ∙ t)
+                        (omega (arith, g.vars_are.stand.many))
+
+                    pub var_fits : n.vars < VARIABLES → VarAt vars n.vars × Fits4 k start end 0
+                    var_fits q = (
+                      (vars_long g.vars_are.stand, q),
                       record {
-                        new = new_var k which start (letters (drop start text));
-                        end = end;
-                        is = var_added which g.xs g.S var_name_lem.is var_sort_text.1 sort_is (sym m ∙ no) (sym free_told ∙ t)
-                            (omega (arith, g.vars_are.stand.many));
-                        room = q;
-                        of_text = refl;
-                        named = atom_named text start var_name_lem.inside;
-                        ends = d;
-                        cells = o;
-                      }
+                        first = var_sort_small;
+                        second = omega (arith, var_name_lem.inside, g.short);
+                        third = omega (arith, atom_high text start end var_name_lem.inside d, g.short);
+                        fourth = omega arith;
+                      },
+                    )
+
+                    pub var_is_added : (which : ℕ) → n.vars < VARIABLES → {after : List ℕ} → after ≡ sets vars (4 * n.vars) (k ∷ which ∷ start ∷ end ∷ []) →
+                        VarAdded text vars after n which g.S (add_var which g.xs g.S)
+                    var_is_added which q o =
+                        record {
+                          new = new_var k which start (letters (drop start text));
+                          end = end;
+                          is = var_added which g.xs g.S var_name_lem.is var_sort_text.1 sort_is (sym m ∙ no) (sym free_told ∙ t)
+                              (omega (arith, g.vars_are.stand.many));
+                          room = q;
+                          of_text = refl;
+                          named = atom_named text start var_name_lem.inside;
+                          ends = d;
+                          cells = o;
+                        }

@@ -1,6 +1,5 @@
 -- What the form of results is given and what it answers, beside what the definition answers: K. Assumes nothing.
-use Rattle.std.specs.Prelude.{◌≡◌, List, ℕ, ◌+◌, ◌*◌, ◌<◌, ◌≤◌, length, get_or, set, Result, Ok, Err}
-use Rattle.rules.specs.Limits.{TERMWORDS}
+use Rattle.std.specs.Prelude.{◌≡◌, List, ℕ, ◌+◌, ◌*◌, ◌<◌, ◌≤◌, get_or, set, Result, Ok, Err}
 use Rattle.rules.specs.Out.{Out, ok}
 use Rattle.rules.specs.Find.{change}
 use Rattle.rules.specs.Sexp.{Sexps, count}
@@ -27,8 +26,8 @@ goal_of S k = get_or S.goals k no_goal
 
 -- Given ----------------------------------------------------------------------------------------------------------------------------
 
--- facts in the tables, and a set wide enough for every term
-pub record ListsHyps (facts hyps terms : List ℕ) : Type 0 where
+-- facts in the tables
+pub record ListsHyps (facts hyps : List ℕ) : Type 0 where
   pub S : State
   pub n : Sizes
   pub trees : Made
@@ -36,7 +35,6 @@ pub record ListsHyps (facts hyps terms : List ℕ) : Type 0 where
   pub lists : List ℕ
   pub recorded : Recorded (records facts footings lists) n trees S
   pub below : All (λ h. h < n.facts) hyps
-  pub wide : length terms ≡ TERMWORDS
 
 -- a goal and a fact in the tables
 pub record Covers (rows facts lists : List ℕ) (k i : ℕ) : Type 0 where

@@ -16,7 +16,7 @@ ghost use Rattle.forms.specs.Declares.{VarAs, NamedAs, DefAs};
 
 use cells::Span;
 use kernel::atoms::marked;
-use kernel::readers::sort_named;
+use kernel::names::SortTable;
 use questions::{Question, Row, Text};
 use reading::reader::reader_of;
 use rules::{DEFS, VARIABLES};
@@ -59,24 +59,24 @@ pub fn add_var(
         return Err(Question::Variable);
     };
     let bytes = given.text;
-    let at = items::place(cells, 2);
-    let Some(own) = items::head(bytes, &cells[at..]) else {
-        return Err(Question::Variable);
+    let own = items::head(bytes, items::from(cells, 2)).ok_or(Question::Variable)?;
+    let sorts = SortTable {
+        text: given.theory,
+        rows: given.sorts,
+        count: board.n.sorts,
     };
-    let Some(sort) = sort_named(given.theory, given.sorts, board.n.sorts, own) else {
-        return Err(Question::Variable);
-    };
+    let sort = sorts.named(own).ok_or(Question::Variable)?;
     if marked(bytes, start) {
         return Err(Question::Variable);
     }
     let end = lex::atom_end(bytes, start);
-    if !is_unused(given, board, &bytes[start..end]) {
+    let name = Span { from: start, end };
+    if !is_unused(given, board, name.of(bytes)) {
         return Err(Question::Variable);
     }
     if board.n.vars >= VARIABLES {
         return Err(Question::Room(Row::Variables));
     }
-    let name = Span { from: start, end };
     put_var(board.vars, board.n.vars, sort, Some(text), name);
     board.n.vars += 1;
     Ok(())
@@ -112,16 +112,16 @@ fn new_def(
     if end < start + 2 {
         return Err(Question::Defined);
     }
-    let at = items::place(cells, 2);
-    let typed = reader_of(given, board).term(store, &cells[at..])?;
-    let None = def_named(text, board.defs, board.n.defs, &text[start..end]) else {
+    let typed = reader_of(given, board).term(store, items::from(cells, 2))?;
+    let name = Span { from: start, end };
+    if def_named(text, board.defs, board.n.defs, name.of(text)).is_some() {
         return Err(Question::Defined);
-    };
+    }
     if board.n.defs >= DEFS {
         return Err(Question::Room(Row::Abbreviations));
     }
     Ok(Abbreviation {
-        name: Span { from: start, end },
+        name,
         term: typed.term,
     })
 }

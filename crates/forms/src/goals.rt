@@ -12,7 +12,7 @@ ghost use Rattle.forms.specs.Boards.{AddsGoalIn};
 ghost use Rattle.forms.specs.Goals.{GoalPlace, PlacedAs, AimedAs};
 
 use crate::stating::{Stated, read_stated};
-use cells::{Span, clear};
+use cells::{Span, or_cleared};
 use questions::{Question, Row};
 use reading::reader::reader_of;
 use rules::{ENTRIES, GOALS};
@@ -41,11 +41,12 @@ fn place_goal(
     };
     let text = given.text;
     let end = lex::atom_end(text, start);
+    let name = Span { from: start, end };
     let n = board.n;
     let rows = &mut *board.rows;
-    let None = goal_named(text, rows, n.goals, &text[start..end]) else {
+    if goal_named(text, rows, n.goals, name.of(text)).is_some() {
         return Err(Question::GoalName);
-    };
+    }
     if n.goals >= GOALS {
         return Err(Question::Room(Row::Goals));
     }
@@ -53,7 +54,6 @@ fn place_goal(
     if room < stated.listed {
         return Err(Question::Room(Row::Entries));
     }
-    let name = Span { from: start, end };
     put_goal(
         rows,
         n.goals,
@@ -80,10 +80,9 @@ pub fn add_goal(
     ensures aimed_as { (g : AddsGoalIn given.now board.old store.old cells.now 3) →
         AimedAs given.now board.old board.new store.old store.new g.S (goal a_goal g.xs g.S) result }
 {
-    let at = items::place(cells, 2);
     // a copy, whose references may be lent for as short as the board's
     let own = *given;
-    let judgment = reader_of(&own, board).judgment(store, &cells[at..])?;
+    let judgment = reader_of(&own, board).judgment(store, items::from(cells, 2))?;
     let stated = Stated {
         judgment,
         listed: 0,
@@ -113,8 +112,5 @@ pub fn add_goal_with(
     let lists = &mut *board.lists;
     let stated = read_stated(given, vars, defs, n, store, cells, &mut lists[from..])?;
     let placed = place_goal(given, board, cells, stated);
-    if placed.is_err() {
-        clear(&mut board.lists[from..]);
-    }
-    placed
+    or_cleared(placed, &mut board.lists[from..])
 }

@@ -14,12 +14,13 @@ ghost use Rattle.forms.specs.Boards.{AddsFactIn};
 ghost use Rattle.forms.specs.Assumed.{AssumedAs, RulePutAs};
 
 use crate::stating::read_stated;
-use cells::{clear, write};
+use cells::{clear, or_cleared, write};
 use questions::{Question, Row};
 use reading::reader::reader_of;
-use rules::{ENTRIES, FACTS, VARIABLES};
+use rules::VARIABLES;
 use sexp::items;
 use state::board::{Board, Given};
+use state::recorded::room;
 use terms::store::Store;
 
 // `(hyp N JUDGMENT)`, by the items of the form. The board and the store are lent as two, here and in the other forms: names are read from the board while
@@ -36,16 +37,15 @@ pub fn add_hyp(
     ensures assumed_as { (g : AddsFactIn given.now board.old store.old cells.now 3) →
         AssumedAs board.old board.new g.footings store.old store.new g.S (add_hyp g.xs g.S) result }
 {
-    let at = items::place(cells, 2);
     // a copy, whose references may be lent for as short as the board's
     let own = *given;
-    let judgment = reader_of(&own, board).judgment(store, &cells[at..])?;
+    let judgment = reader_of(&own, board).judgment(store, items::from(cells, 2))?;
     board.put_hypothesis(judgment, 0, 0)?;
     Ok(())
 }
 
-// The generalised variables, which item 4 of the form lists, come into the cells, which are zero before; how many they are. The cells are lent, since
-// there is no heap for a list.
+// The generalised variables, which item 4 of the form lists, come into the cells, which are zero before; how many they are. The cells are lent:
+// there is no heap, and the core stands on `std` alone, which has no vector without one.
 fn general_vars(
     given: &Given<'_>,
     board: &Board<'_>,
@@ -57,8 +57,7 @@ fn general_vars(
     ensures { let b = board.now in (g : VarsItems given.now.goals.now given.now.text.now b.vars.now b.n.vars cells.now) → 5 ≤ count g.xs →
         VarsAs g.S.vars (item g.xs 4) general.old general.new result }
 {
-    let at = items::place(cells, 4);
-    reader_of(given, board).vars_list(&cells[at..], general)
+    reader_of(given, board).vars_list(items::from(cells, 4), general)
 }
 
 // A hypothesis behind the others; so many premises stand behind its own entry already, as far as there is room, and the generalised variables come
@@ -75,23 +74,10 @@ fn put_rule(
     ensures only { OnlyHyps board.old board.new }
     ensures put_as { (footings : List ℕ) → length footings ≡ 4 * FACTS → RulePutAs board.old board.new footings judgment premises general.now result }
 {
-    if board.n.facts >= FACTS {
-        return Err(Row::Facts);
-    }
-    let own = board.n.entries;
-    if own >= ENTRIES {
-        return Err(Row::Entries);
-    }
-    let from = own + 1;
-    let room = ENTRIES - from;
-    if room < premises {
-        return Err(Row::Entries);
-    }
     let many = general.len();
-    if room - premises < many {
-        return Err(Row::Entries);
-    }
-    let at = from + premises;
+    // the premises are as many as the form lists, which may be more than can be counted with the others
+    let end = room(board.n, premises.saturating_add(1 + many))?;
+    let at = end - many;
     write(&mut board.lists[at..], general);
     board.put_hypothesis(judgment, premises, many)
 }
@@ -118,11 +104,10 @@ pub fn add_rule_hyp(
     let from = lists.len().min(n.entries + 1);
     let stated = read_stated(given, vars, defs, n, store, cells, &mut lists[from..])?;
     let mut general = [0u32; VARIABLES];
-    let Some(many) = general_vars(given, board, cells, &mut general) else {
-        clear(&mut board.lists[from..]);
-        return Err(Question::Binding);
-    };
+    let listed = general_vars(given, board, cells, &mut general).ok_or(Question::Binding);
+    let many = or_cleared(listed, &mut board.lists[from..])?;
     let put = put_rule(board, stated.judgment, stated.listed, &general[..many]);
+    // no `or_cleared`: how long the lists are behind `put_rule` is known in the arm of its refusal alone, and the cut for it would be made before
     if put.is_err() {
         clear(&mut board.lists[from..]);
     }

@@ -7,15 +7,12 @@ use reading::names::index;
 use sexp::items;
 use state::sizes::Sizes;
 
-// Whether the index of the form, whose items the cells hold, is the next.
-pub fn is_next(text: &[u8], cells: &[u32], n: Sizes) -> Result<(), Question>
+// That the index of the form, whose items the cells hold, is the next.
+pub fn next_index(text: &[u8], cells: &[u32], n: Sizes) -> Result<(), Question>
     requires { OwnIndex text.now cells.now n }
     ensures { (g : OwnIndex text.now cells.now n) → NextAs g.S (next g.xs g.S) result }
 {
-    let at = items::place(cells, 1);
-    let Some(i) = index(text, &cells[at..]) else {
-        return Err(Question::Index);
-    };
+    let i = index(text, items::from(cells, 1)).ok_or(Question::Index)?;
     if i != n.facts {
         return Err(Question::NextIndex);
     }

@@ -1,6 +1,6 @@
 // `(result NAME REF)`: questions 50 to 52. A goal's result has come.
 ghost use Rattle.state.specs.Records.{fact_rows};
-ghost use Rattle.std.specs.Prelude.{◌≡◌, ◌&&◌, ◌*◌, ◌<◌, length, replicate};
+ghost use Rattle.std.specs.Prelude.{◌≡◌, ◌&&◌, ◌<◌, replicate};
 ghost use Rattle.rules.specs.Limits.{TERMS};
 ghost use Rattle.rules.specs.Find.{entry, all, has};
 ghost use Rattle.rules.specs.Tree.{Trees};
@@ -16,7 +16,6 @@ ghost use Rattle.referring.specs.Recall.{fact_of};
 ghost use Rattle.forms.specs.Boards.{TakesResultIn};
 ghost use Rattle.forms.specs.Results.{goal_of, ListsHyps, Covers, MetAs, ResultedAs};
 
-use cells::Span;
 use facts::Fact;
 use questions::Question;
 use referring::references::insert_all;
@@ -30,25 +29,20 @@ use terms::sets::has;
 use terms::store::Store;
 
 // Whether fact h is a plain hypothesis, with a judgment of the set.
-fn is_listed(facts: &[Fact], h: usize, terms: &[u64]) -> bool
-    requires { FactAt (fact_rows facts.now) h × (cell 6 (fact_rows facts.now) h 0 < 64 * length terms.now) }
+fn is_listed(facts: &[Fact], h: usize, terms: &[u64; TERMWORDS]) -> bool
+    requires { FactAt (fact_rows facts.now) h × (cell 6 (fact_rows facts.now) h 0 < TERMS) }
     ensures { result ≡ plain_row (fact_rows facts.now) h && holds terms.now (cell 6 (fact_rows facts.now) h 0) }
 {
     is_plain(facts, h) && has(terms, judgment(facts, h))
 }
 
 // Whether each of the hypotheses is plain, with a judgment of the set.
-fn all_listed(facts: &[Fact], hyps: &[u32], terms: &[u64]) -> bool
-    requires { ListsHyps (fact_rows facts.now) hyps.now terms.now }
-    ensures { ((g : ListsHyps (fact_rows facts.now) hyps.now terms.now) (hs : Trees) → Each (sound.Has g.trees) hs →
+fn all_listed(facts: &[Fact], hyps: &[u32], terms: &[u64; TERMWORDS]) -> bool
+    requires { ListsHyps (fact_rows facts.now) hyps.now }
+    ensures { ((g : ListsHyps (fact_rows facts.now) hyps.now) (hs : Trees) → Each (sound.Has g.trees) hs →
         holds terms.now ≡ has (numbers g.trees hs) → result ≡ all (λ h. listed hs (entry g.S.facts h)) hyps.now) }
 {
-    for h in hyps {
-        if !is_listed(facts, *h as usize, terms) {
-            return false;
-        }
-    }
-    true
+    hyps.iter().all(|h| is_listed(facts, *h as usize, terms))
 }
 
 // Question 51: whether goal k lists each hypothesis of fact i, on which a reference rests that names it bare.
@@ -58,8 +52,8 @@ fn covers(facts: &Facts<'_>, goals: &[u32], k: usize, i: usize) -> bool
         result ≡ all (λ h. listed (goal_of g.S k).hyps (entry g.S.facts h)) (fact_of g.S i).hyps }
 {
     let mut terms = [0u64; TERMWORDS];
-    let Span { from, end } = goal_hyps(goals, k);
-    insert_all(&facts.lists[from..end], &mut terms);
+    let hyps = goal_hyps(goals, k);
+    insert_all(hyps.of(facts.lists), &mut terms);
     all_listed(facts.records, facts.hyps(i), &terms)
 }
 
@@ -78,19 +72,13 @@ fn met(
         MetAs board.now store.old store.new g.S (result_of g.xs g.S) result }
     ensures memo_unchanged { memo.new ≡ memo.old }
 {
-    let first = items::place(cells, 1);
-    let Some(name) = items::head(given.text, &cells[first..]) else {
-        return Err(Question::ResultName);
-    };
-    let Some(k) = goal_named(given.goals, board.rows, board.n.goals, name) else {
-        return Err(Question::ResultName);
-    };
+    let name = items::head(given.text, items::from(cells, 1)).ok_or(Question::ResultName)?;
+    let k = goal_named(given.goals, board.rows, board.n.goals, name).ok_or(Question::ResultName)?;
     if is_taken(board.rows, k) {
         return Err(Question::ResultName);
     }
-    let at = items::place(cells, 2);
     let source = source_of(given, board);
-    let found = source.reference(store, &cells[at..], memo)?;
+    let found = source.reference(store, items::from(cells, 2), memo)?;
     let facts = source.facts();
     if found.bare && !covers(&facts, board.rows, k, found.fact) {
         return Err(Question::ResultHypotheses);

@@ -8,7 +8,7 @@ ghost use Rattle.state.specs.Held.{names};
 ghost use Rattle.forms.specs.Halted.{ReadsForm};
 ghost use Rattle.forms.specs.Stating.{stating, StatedAs};
 
-use cells::clear;
+use cells::or_cleared;
 use questions::Question;
 use reading::reader::Reader;
 use sexp::items;
@@ -24,7 +24,7 @@ pub struct Stated {
 }
 
 // The judgments that item 2 of a form lists, and the judgment that is item 3. The numbers of those listed come into the cells `out` as far as there are
-// any; these are zero before, and again where a question is left. They are part of the board's lists, so that the tables of names come apart from it: of a
+// any; these are zero before, and again where a form is refused. They are part of the board's lists, so that the tables of names come apart from it: of a
 // whole board it would have to be said besides that its other tables, and the front of the lists, are as they were.
 pub fn read_stated(
     given: &Given<'_>,
@@ -51,13 +51,8 @@ pub fn read_stated(
         defs,
         n,
     };
-    let at = items::place(cells, 2);
-    let listed = reader.judgments(store, &cells[at..], out)?;
-    let next = items::place(cells, 3);
-    let read = reader.judgment(store, &cells[next..]);
-    if read.is_err() {
-        clear(out);
-    }
-    let judgment = read?;
+    let listed = reader.judgments(store, items::from(cells, 2), out)?;
+    let read = reader.judgment(store, items::from(cells, 3));
+    let judgment = or_cleared(read, out)?;
     Ok(Stated { judgment, listed })
 }

@@ -14,6 +14,7 @@ fn write_facts(rt: &HostRuntime, texts: &Texts<'_>) -> io::Result<()> {
     out.flush()
 }
 
+// As in `horn`, which names itself and writes its own: a function over a closure would save none of the two lines.
 fn run(rt: &HostRuntime) -> io::Result<()> {
     match load_texts(rt) {
         Ok(files) => write_facts(rt, &files.texts()),

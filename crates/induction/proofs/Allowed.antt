@@ -3,16 +3,14 @@ use mathlib.Core.Path.{◌≡◌, sym, ap, ◌∙◌, subst}
 use mathlib.Core.Bool.{Bool, true, false, ◌&&◌, not}
 use Rattle.std.specs.Prelude.{◌≢◌, ◌⊎◌}
 use mathlib.Core.Logic.{inl, inr}
-use mathlib.Core.List.{List, ◌∷◌}
-use Prim.Native.Nat.{ℕ, suc, ◌+◌, ◌*◌, ◌<◌, ◌≤◌}
+use mathlib.Core.List.{List}
+use Prim.Native.Nat.{ℕ, ◌*◌, ◌<◌, ◌≤◌}
 use native.Mathlib.Omega.{arith}
 use lib.Dec.{eqb}
-use native.Mathlib.Numerals.{add-one}
-use lib.ListN.{length, get_or, drop, drop_of_length-le}
-use lib.Seq.{drop-cons}
+use lib.ListN.{length, get_or}
 use Rattle.state.specs.Entries.{part}
 use borrow.Author.Tests.{eq-eqb, ne_eqb}
-use Rattle.rules.specs.Limits.{FACTS}
+use Rattle.rules.specs.Limits.{FACTS, VARIABLES, TERMWORDS}
 use Rattle.rules.specs.Out.{Out, ok, refuse, then, ask}
 use Rattle.rules.specs.Find.{any, all, entry}
 use Rattle.rules.specs.Tree.{Tree, same_tree, same_trees}
@@ -20,7 +18,7 @@ use Rattle.rules.specs.Store.{Made}
 use Rattle.rules.specs.State.{Fact, is_plain}
 use Rattle.rules.specs.StateTables.{numbers}
 use Rattle.rules.specs.Induct.{motive_vars, Hyp, allowed_plain, allowed_rule, allowed_hyp}
-use Rattle.rules.specs.Laws.Theory.{All, both, all_at}
+use Rattle.rules.specs.Laws.Theory.{all_at}
 use Rattle.terms.specs.Table.{Below, made, tree}
 use Rattle.terms.specs.Sets.{holds}
 use Rattle.terms.specs.Laws.Growth.{made_length}
@@ -61,14 +59,14 @@ module _ {facts lists : List ℕ} {n : Sizes} {plain used : List ℕ} {x w : ℕ
     judged : cell 6 facts h 0 < g.m.terms
     judged = omega (arith, row.judgment.below, made_length g.I g.W g.m)
 
-    pub rest_judgment : {j : ℕ} → j ≡ cell 6 facts h 0 → j < 64 * length plain
-    rest_judgment e = omega (arith, e, judged, g.good.room, g.long)
+    pub rest_judgment : {j : ℕ} → j ≡ cell 6 facts h 0 → length plain ≡ TERMWORDS → j < 64 * length plain
+    rest_judgment e l = omega (arith, e, judged, g.good.room, l)
 
-    pub rest_general : {own : List ℕ} → own ≡ part lists (general_span facts h) → Below (64 * length used) own
+    pub rest_general : {own : List ℕ} → own ≡ part lists (general_span facts h) → Below VARIABLES own
     rest_general {own} e k p =
         let z = e ∙ row.general in
         let q = all_at (fact_of g.S h).general k 0 row.general_below (subst (λ (xs : List ℕ). k < length xs) z p) in
-        subst (λ (xs : List ℕ). get_or xs k 0 < 64 * length used) (sym z) (omega (arith, q, g.recorded.rows.row7, g.wide))
+        subst (λ (xs : List ℕ). get_or xs k 0 < VARIABLES) (sym z) (omega (arith, q, g.recorded.rows.row7))
 
     abbrev rule : Bool
     rule = allowed_rule g.M ihs (fact_of g.S h)
@@ -127,59 +125,20 @@ module _ {facts lists : List ℕ} {n : Sizes} {plain used : List ℕ} {x w : ℕ
 
 -- All hypotheses of a fact ----------------------------------------------------------------------------------------------------------------------
 
--- these are left of the list, and the rest of its cells
-pub record Allowing (p : ℕ → Bool) (n : Sizes) (hs cells : List ℕ) (k : ℕ) : Type 0 where
-  pub on : all p hs ≡ all p (drop k cells)
-  pub each : All (λ h. h < n.facts) (drop k cells)
-
-module _ {p : ℕ → Bool} {n : Sizes} {hs cells : List ℕ} {k : ℕ} (h : Allowing p n hs cells k) where
-  pub allowing_done : length cells ≤ k → true ≡ all p hs
-  unfolding all
-  allowing_done l = sym (h.on ∙ ap (all p) (drop_of_length-le cells l))
-
-  module _ (l : k < length cells) where
-    each_split : All (λ h. h < n.facts) (get_or cells k 0 ∷ drop (suc k) cells)
-    each_split = subst (All (λ h. h < n.facts)) (drop-cons cells k 0 l) h.each
-
-    pub allowing_here : get_or cells k 0 < n.facts
-    allowing_here = all_at (get_or cells k 0 ∷ drop (suc k) cells) 0 0 each_split (omega arith)
-
-    allowing_step : all p hs ≡ elim (p (get_or cells k 0)) [ true ↦ all p (drop (suc k) cells) | false ↦ false ]
-    unfolding all
-    allowing_step = h.on ∙ ap (all p) (drop-cons cells k 0 l)
-
-    pub allowing_not : (r : Bool) → r ≡ p (get_or cells k 0) → r ≡ false → false ≡ all p hs
-    allowing_not r e f = sym (allowing_step ∙ ap (λ (b : Bool). elim b [ true ↦ all p (drop (suc k) cells) | false ↦ false ]) (sym e ∙ f))
-
-    pub allowing_again : (r : Bool) → r ≡ p (get_or cells k 0) → r ≡ true → Allowing p n hs cells (k + 1)
-    allowing_again r e f =
-        record {
-          on = allowing_step ∙ ap (λ (b : Bool). elim b [ true ↦ all p (drop (suc k) cells) | false ↦ false ]) (sym e ∙ f)
-              ∙ ap (λ (w : ℕ). all p (drop w cells)) (sym (add-one k));
-          each = subst (λ (w : ℕ). All (λ h. h < n.facts) (drop w cells)) (sym (add-one k)) (rest_each each_split);
-        }
-      where
-        rest_each : {x : ℕ} {xs : List ℕ} → All (λ h. h < n.facts) (x ∷ xs) → All (λ h. h < n.facts) xs
-        rest_each (both a b) = b
-
 module _ {facts lists : List ℕ} {n : Sizes} {plain used : List ℕ} {x w : ℕ} {ids : List ℕ} (g : Resting facts lists n plain used x w ids) (i : ℕ)
     (l : i < n.facts) where
   -- what is asked of each
   abbrev pub asked : ℕ → Bool
   asked h = allowed_hyp g.M g.ps (hyps_in (made g.I g.W g.m) w g.many ids) (entry g.S.facts h)
 
-  allowing_start : Allowing asked n (fact_of g.S i).hyps (part lists (hyps_span facts i)) 0
-  allowing_start =
-      record { on = ap (all asked) (sym (row g i l).hyps); each = subst (All (λ h. h < n.facts)) (sym (row g i l).hyps) (row g i l).hyps_below }
+  -- the cells that are gone through are its hypotheses
+  pub hyps_are : {own : List ℕ} → own ≡ part lists (hyps_span facts i) → own ≡ (fact_of g.S i).hyps
+  hyps_are e = e ∙ (row g i l).hyps
 
--- of whatever the tables stand for
-abbrev pub Allows : (facts lists : List ℕ) (n : Sizes) (i : ℕ) (plain used : List ℕ) (x w : ℕ) (ids cells : List ℕ) (k : ℕ) → Type 0
-Allows facts lists n i plain used x w ids cells k =
-    (g : Resting facts lists n plain used x w ids) (l : i < n.facts) → Allowing (asked g i l) n (fact_of g.S i).hyps cells k
-
-pub allows_start : {facts lists : List ℕ} {n : Sizes} {i : ℕ} {plain used : List ℕ} {x w : ℕ} {ids own : List ℕ} → own ≡ part lists (hyps_span facts i) →
-    Allows facts lists n i plain used x w ids own 0
-allows_start {n = n} {i} e g l = subst (λ (cells : List ℕ). Allowing (asked g i l) n (fact_of g.S i).hyps cells 0) (sym e) (allowing_start g i l)
+  pub hyps_there : {own : List ℕ} → own ≡ part lists (hyps_span facts i) → (k : ℕ) → k < length own → get_or own k 0 < n.facts
+  hyps_there {own} e k p =
+      let q = all_at (fact_of g.S i).hyps k 0 (row g i l).hyps_below (subst (λ (xs : List ℕ). k < length xs) (hyps_are e) p) in
+      subst (λ (xs : List ℕ). get_or xs k 0 < n.facts) (sym (hyps_are e)) q
 
 -- Questions 34, 43 and 44 -------------------------------------------------------------------------------------------------------------------------
 

@@ -112,7 +112,7 @@ module _ {facts lists : List ℕ} {n : Sizes} {I W : List ℕ} {m : Mark} {x sor
               hyps_front (made Y Z end) (length premises) supposed.many ids'
               ∙ ap (λ (n : ℕ). hyps_in (made Y Z end) (length premises) supposed.many (take n ids')) (sym supposed.place)
 
-          module _ (plain : List ℕ) (z : length plain ≡ length {A = ℕ} (replicate TERMWORDS 0))
+          module _ (plain : List ℕ)
               (q : holds plain ≡ union (holds (replicate TERMWORDS 0)) (has (take (length premises) (last ++ drop (length premises) ids))))
               (y : length ids' ≡ length (last ++ drop (length premises) ids)) where
             -- what the questions of the fact are given
@@ -132,9 +132,7 @@ module _ {facts lists : List ℕ} {n : Sizes} {I W : List ℕ} {m : Mark} {x sor
                   variable_is = refl;
                   premises_are = none_args (made I W m) premises;
                   used_are = h.used_are;
-                  wide = h.wide;
                   plain_are = plain_right plain q;
-                  long = z ∙ length-replicate {A = ℕ} TERMWORDS 0;
                   narrow = h.motived.few;
                   filled = length-take-le stop ids' (end_rows y) ∙ supposed.place;
                   known = supposed.known;

@@ -8,7 +8,7 @@ use native.Mathlib.Omega.{arith}
 use lib.Dec.{eqb}
 use lib.ListN.{length, drop, length-drop}
 use borrow.Author.Tests.{eq-eqb, ne_eqb}
-use Rattle.rules.specs.Limits.{SYMBOLS, VARIABLEWORDS}
+use Rattle.rules.specs.Limits.{SYMBOLS}
 use Rattle.rules.specs.Out.{Out, refuse, then, ask}
 use Rattle.rules.specs.Sexp.{Sexps, cons, count}
 use Rattle.rules.specs.Find.{every}
@@ -143,7 +143,6 @@ module _ {K : Names} {facts footings lists : List ℕ} {n : Sizes} {I W : List �
                 y = one.x;
                 ys = one.ys;
                 spelling = (refers_on g.refers (grown_grows h.on.grown) h.on.grown.good).reads.spelling;
-                wide = g.wide;
                 items = subst (λ (z : List ℕ). Holds K.text z (cons one.x one.ys)) (sym w.is) one.holds;
               }
 
@@ -176,7 +175,6 @@ module _ {K : Names} {facts footings lists : List ℕ} {n : Sizes} {I W : List �
                   recorded = (refers_on g.refers (grown_grows h.on.grown) h.on.grown.good).recorded;
                   motived = motived_on h.on.grown g.motived;
                   used_are = g.used_are ∙ ap motive_vars (sym (motive_on sort h.on.grown g.motived));
-                  wide = g.wide;
                 }
 
             pub cases_cased : Casing J X now d own × (length sorts ≡ length own)
@@ -237,11 +235,11 @@ module _ {K : Names} {facts footings lists : List ℕ} {n : Sizes} {I W : List �
         pub motive_absent : {t : Bool} → t ≡ holds used x → t ≡ false → Stopped I W I W m asked 45 0 m
         motive_absent v f = on_ask_no _ 45 right (occurs v ∙ f)
 
-        abbrev pub motive_cases : length used ≡ VARIABLEWORDS → CaseItems K facts footings lists n I W m x sort j premises used cells
-        motive_cases l = record { S = g.S; xs = g.xs; refers = g.refers; motived = g.motived; used_are = u; wide = l; items = g.items }
+        abbrev pub motive_cases : CaseItems K facts footings lists n I W m x sort j premises used cells
+        motive_cases = record { S = g.S; xs = g.xs; refers = g.refers; motived = g.motived; used_are = u; items = g.items }
 
-        pub motive_passed : {t : Bool} → t ≡ holds used x → t ≡ true → (l : length used ≡ VARIABLEWORDS) (Y Z : List ℕ) (new : Mark) (o : Result (Unit {0}) Question) →
+        pub motive_passed : {t : Bool} → t ≡ holds used x → t ≡ true → (Y Z : List ℕ) (new : Mark) (o : Result (Unit {0}) Question) →
             ((k : CaseItems K facts footings lists n I W m x sort j premises used cells) →
             PassedBy I W Y Z m new (induct_cases k.S (motive_in (made I W m) x sort j premises) k.xs (constructors k.S.theory sort) (made I W m)) o) →
             PassedBy I W Y Z m new asked o
-        motive_passed v f l Y Z new o p = passed_on Y Z new o (on_ask_yes _ 45 right (occurs v ∙ f)) (p (motive_cases l))
+        motive_passed v f Y Z new o p = passed_on Y Z new o (on_ask_yes _ 45 right (occurs v ∙ f)) (p motive_cases)

@@ -3,7 +3,7 @@ use mathlib.Core.Path.{◌≡◌, refl, sym, ap, ◌∙◌, subst}
 use mathlib.Core.Bool.{Bool, true, false, ◌&&◌, ◌||◌, not}
 use Rattle.std.specs.Prelude.{Option, Some as some, None as nothing}
 use mathlib.Core.List.{List, [], ◌∷◌, ◌++◌}
-use Prim.Native.Nat.{ℕ, suc, ◌+◌, ◌*◌, ◌<◌, ◌≤◌}
+use Prim.Native.Nat.{ℕ, suc, ◌+◌, ◌*◌, ◌<◌}
 use native.Mathlib.Omega.{arith}
 use native.Mathlib.Numerals.{add-one}
 use lib.Dec.{eqb}
@@ -28,7 +28,8 @@ use Rattle.state.specs.Rows.{SomeVars, cell}
 use Rattle.state.specs.VarLaws.{vars_long, var_sort_is}
 use Rattle.reading.specs.Laws.Lists.{variable_below}
 use Rattle.reading.specs.Items.{FirstItem, variable_in, variable_found}
-use Rattle.sexp.specs.Each.{Here}
+use denote.Ref.{Bor}
+use Rattle.sexp.specs.Each.{Here, Step, Over, here, over}
 use Rattle.sexp.specs.declared.items.Each.{Each}
 use Rattle.terms.specs.Table.{Below}
 use Rattle.terms.specs.Laws.Below.{below_snoc}
@@ -88,25 +89,38 @@ names_start e g =
       wide = length-replicate {A = ℕ} VARIABLEWORDS 0;
     }
 
-module _ {goals text vars : List ℕ} {n : ℕ} {sorts used cells : List ℕ} (g : CaseNames goals text vars n sorts used cells) {out seen : List ℕ} {k at : ℕ}
-    (h : NamesLeft g.S g.xs text sorts used cells out seen k at) where
-  pub names_done : length cells ≤ at → (M : Motive) → holds used ≡ motive_vars M → Named (case_vars g.S M g.xs sorts []) (length sorts) out
+-- what the loop keeps: the walk, and what is left of the names
+pub record Naming (goals text vars : List ℕ) (n : ℕ) (sorts used cells out seen : List ℕ) (m : ℕ) (s : Each) : Type 0 where
+  pub walked : s.cells.now ≡ cells
+  pub names : NamesOf goals text vars n sorts used cells out seen m s.at
+
+module _ {goals text vars : List ℕ} {n : ℕ} {sorts used cells : List ℕ} (g : CaseNames goals text vars n sorts used cells) {out seen : List ℕ} {m : ℕ} {s : Each}
+    (i : Naming goals text vars n sorts used cells out seen m s) where
+  pub names_done : {e : Each} → Over s e → (M : Motive) → holds used ≡ motive_vars M → Named (case_vars g.S M g.xs sorts []) (length sorts) out
   unfolding case_vars count
   names_done l M q =
-      let z = walk_over h.walk l in
-      let e : k ≡ length sorts = let y = ap count z in omega (arith, h.many, y) in
+      let h = i.names g in
+      let z = walk_over h.walk (over i.walked l) in
+      let e : m ≡ length sorts = let y = ap count z in omega (arith, h.many, y) in
       record {
-        are = λ U. h.on M q U ∙ ap (λ (xs : Sexps). case_vars g.S M xs (drop k sorts) (take k out) U) z ∙ ap (λ (i : ℕ). ok (take i out) U) e;
-        small = subst (λ (i : ℕ). Below VARIABLES (take i out)) e h.small;
+        are = λ U. h.on M q U ∙ ap (λ (xs : Sexps). case_vars g.S M xs (drop m sorts) (take m out) U) z ∙ ap (λ (j : ℕ). ok (take j out) U) e;
+        small = subst (λ (j : ℕ). Below VARIABLES (take j out)) e h.small;
         long = h.long;
       }
 
-  module _ {part : List ℕ} {next : Each} (w : Here cells part at next) where
+  -- at the item that the walk hands out, with its number
+  module _ {part : Bor (List ℕ)} {t : Each} (step_on : Step s part t) {k : ℕ} (number : k ≡ m) where
+    w : Here cells part.now s.at t
+    w = here i.walked step_on
+
+    h : NamesLeft g.S g.xs text sorts used cells out seen k s.at
+    h = subst (λ (j : ℕ). NamesLeft g.S g.xs text sorts used cells out seen j s.at) (sym number) (i.names g)
+
     item : More h.zs
     item = walk_more h.walk w.inside
 
-    here : Walk text cells at (cons item.first item.others)
-    here = subst (λ (z : Sexps). Walk text cells at z) item.is h.walk
+    first_walk : Walk text cells s.at (cons item.first item.others)
+    first_walk = subst (λ (z : Sexps). Walk text cells s.at z) item.is h.walk
 
     pub names_place : k < length sorts
     names_place = omega (arith, h.many, count_more item.first item.others h.zs item.is)
@@ -114,10 +128,10 @@ module _ {goals text vars : List ℕ} {n : ℕ} {sorts used cells : List ℕ} (g
     pub names_room : k < length out
     names_room = omega (arith, names_place, g.few, h.long)
 
-    spelled : Holds text part (cons item.first item.others)
-    spelled = subst (λ (z : List ℕ). Holds text z (cons item.first item.others)) (sym w.is) (walk_rest here)
+    spelled : Holds text part.now (cons item.first item.others)
+    spelled = subst (λ (z : List ℕ). Holds text z (cons item.first item.others)) (sym w.is) (walk_rest first_walk)
 
-    pub names_given : FirstItem text part × SomeVars goals text vars n
+    pub names_given : FirstItem text part.now × SomeVars goals text vars n
     names_given = (record { x = item.first; ys = item.others; holds = spelled }, (g.S.vars, g.held))
 
     split : (M : Motive) → holds used ≡ motive_vars M → (U : Made) → case_vars g.S M g.xs sorts [] U
@@ -125,10 +139,10 @@ module _ {goals text vars : List ℕ} {n : ℕ} {sorts used cells : List ℕ} (g
         (λ v N. then (ask 42 (asks g.S M (get_or sorts k 0) (take k out) v) N) (λ z B. case_vars g.S M item.others (drop (suc k) sorts) (take k out ++ (v ∷ [])) B))
     split M q U =
         h.on M q U
-        ∙ (λ i. case_vars g.S M (item.is i) (drop-cons sorts k 0 names_place i) (take k out) U)
+        ∙ (λ j. case_vars g.S M (item.is j) (drop-cons sorts k 0 names_place j) (take k out) U)
         ∙ step g.S M item.first item.others (get_or sorts k 0) (drop (suc k) sorts) (take k out) U
 
-    module _ {r : Option ℕ} (a : (vs : List Var) (x : Sexp) (ys : Sexps) → VarsHeld goals text vars n vs → Holds text part (cons x ys) → r ≡ (variable_in vs x)) where
+    module _ {r : Option ℕ} (a : (vs : List Var) (x : Sexp) (ys : Sexps) → VarsHeld goals text vars n vs → Holds text part.now (cons x ys) → r ≡ (variable_in vs x)) where
       answer : r ≡ (variable_in g.S.vars item.first)
       answer = a g.S.vars item.first item.others g.held spelled
 
@@ -150,8 +164,8 @@ module _ {goals text vars : List ℕ} {n : ℕ} {sorts used cells : List ℕ} (g
         pub names_sort_asks : (length vars ≡ 4 * VARIABLES) × (v < VARIABLES)
         names_sort_asks = (vars_long g.held.stand, names_variable)
 
-        pub names_used : v < 64 * length used
-        names_used = omega (arith, names_variable, g.wide)
+        pub names_used : length used ≡ VARIABLEWORDS → v < 64 * length used
+        names_used w = omega (arith, names_variable, w)
 
         pub names_seen : v < 64 * length seen
         names_seen = omega (arith, names_variable, h.wide)
@@ -171,24 +185,24 @@ module _ {goals text vars : List ℕ} {n : ℕ} {sorts used cells : List ℕ} (g
         failed M q U f =
             tested M q U ∙ ap (λ (b : Bool). then (ask 42 b U) (λ z B. case_vars g.S M item.others (drop (suc k) sorts) (take k out ++ (v ∷ [])) B)) f
 
-        module _ {s : ℕ} (d : s ≡ cell 4 vars v 0) where
-          sorted : s ≡ sort_of_var g.S.vars v
+        module _ {sort : ℕ} (d : sort ≡ cell 4 vars v 0) where
+          sorted : sort ≡ sort_of_var g.S.vars v
           sorted = d ∙ var_sort_is g.held.stand v
 
-          pub names_other : (s ≡ get_or sorts k 0 → ⊥) → (M : Motive) → holds used ≡ motive_vars M → (U : Made) → case_vars g.S M g.xs sorts [] U ≡ refuse 42 0 U
+          pub names_other : (sort ≡ get_or sorts k 0 → ⊥) → (M : Motive) → holds used ≡ motive_vars M → (U : Made) → case_vars g.S M g.xs sorts [] U ≡ refuse 42 0 U
           names_other n M q U =
               failed M q U (ap (λ (b : Bool). b && (not (motive_vars M v) && not (has (take k out) v))) (ne_eqb (sort_of_var g.S.vars v) (get_or sorts k 0) (λ z. n (sorted ∙ z))))
 
-          module _ (f : s ≡ get_or sorts k 0) where
+          module _ (f : sort ≡ get_or sorts k 0) where
             fits : eqb (sort_of_var g.S.vars v) (get_or sorts k 0) ≡ true
             fits = eq-eqb (sort_of_var g.S.vars v) (get_or sorts k 0) (sym sorted ∙ f)
 
-            pub names_taken : (t : Bool) → t ≡ holds used v → t ≡ true → (M : Motive) → holds used ≡ motive_vars M → (U : Made) →
+            pub names_taken : {b : Bool} → b ≡ holds used v → b ≡ true → (M : Motive) → holds used ≡ motive_vars M → (U : Made) →
                 case_vars g.S M g.xs sorts [] U ≡ refuse 42 0 U
-            names_taken t b c M q U =
-                failed M q U (λ i. fits i && (not ((ap (λ (p : Set). p v) (sym q) ∙ sym b ∙ c) i) && not (has (take k out) v)))
+            names_taken b c M q U =
+                failed M q U (λ j. fits j && (not ((ap (λ (p : Set). p v) (sym q) ∙ sym b ∙ c) j) && not (has (take k out) v)))
 
-            module _ (t : Bool) (b : t ≡ holds used v) (c : t ≡ false) (u : Bool) (p : u ≡ holds seen v) where
+            module _ {taken : Bool} (b : taken ≡ holds used v) (c : taken ≡ false) {u : Bool} (p : u ≡ holds seen v) where
               new : (M : Motive) → holds used ≡ motive_vars M → motive_vars M v ≡ false
               new M q = ap (λ (a : Set). a v) (sym q) ∙ sym b ∙ c
 
@@ -196,23 +210,23 @@ module _ {goals text vars : List ℕ} {n : ℕ} {sorts used cells : List ℕ} (g
               unseen = ap (λ (a : Set). a v) (sym h.seen_are) ∙ sym p
 
               pub names_twice : u ≡ true → (M : Motive) → holds used ≡ motive_vars M → (U : Made) → case_vars g.S M g.xs sorts [] U ≡ refuse 42 0 U
-              names_twice y M q U = failed M q U (λ i. fits i && (not (new M q i) && not ((unseen ∙ y) i)))
+              names_twice y M q U = failed M q U (λ j. fits j && (not (new M q j) && not ((unseen ∙ y) j)))
 
-              pub names_again : u ≡ false → (seen' : List ℕ) → length seen' ≡ length seen → holds seen' ≡ plus v (holds seen) →
-                  NamesLeft g.S g.xs text sorts used cells (set out k v) seen' (k + 1) next.at
+              pub names_again : u ≡ false → {seen' : List ℕ} → length seen' ≡ length seen → holds seen' ≡ plus v (holds seen) →
+                  NamesLeft g.S g.xs text sorts used cells (set out k v) seen' (k + 1) t.at
               unfolding then
-              names_again y seen' z x =
-                  let o : take (k + 1) (set out k v) ≡ take k out ++ (v ∷ []) = ap (λ (i : ℕ). take i (set out k v)) (add-one k) ∙ take-suc-set out k v names_room in
+              names_again y z x =
+                  let o : take (k + 1) (set out k v) ≡ take k out ++ (v ∷ []) = ap (λ (j : ℕ). take j (set out k v)) (add-one k) ∙ take-suc-set out k v names_room in
                   record {
                     zs = item.others;
-                    walk = walk_next here w.behind;
+                    walk = walk_next first_walk w.behind;
                     many = omega (arith, h.many, count_more item.first item.others h.zs item.is);
                     on = λ M q U.
                         tested M q U
                         ∙ ap (λ (b : Bool). then (ask 42 b U) (λ z B. case_vars g.S M item.others (drop (suc k) sorts) (take k out ++ (v ∷ [])) B))
-                        (λ i. fits i && (not (new M q i) && not ((unseen ∙ y) i)))
-                        ∙ (λ i. case_vars g.S M item.others (drop (sym (add-one k) i) sorts) (sym o i) U);
-                    seen_are = x ∙ (λ i a. (ap (λ (b : Bool). b || eqb a v) (ap (λ (c : Set). c a) h.seen_are) ∙ sym (has_snoc (take k out) v a)) i)
+                        (λ j. fits j && (not (new M q j) && not ((unseen ∙ y) j)))
+                        ∙ (λ j. case_vars g.S M item.others (drop (sym (add-one k) j) sorts) (sym o j) U);
+                    seen_are = x ∙ (λ j a. (ap (λ (b : Bool). b || eqb a v) (ap (λ (c : Set). c a) h.seen_are) ∙ sym (has_snoc (take k out) v a)) j)
                         ∙ ap has (sym o);
                     small = subst (Below VARIABLES) (sym o) (below_snoc (take k out) h.small names_variable);
                     long = length-set out k v ∙ h.long;

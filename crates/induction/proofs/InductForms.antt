@@ -2,14 +2,14 @@
 use mathlib.Core.Path.{◌≡◌, sym, ap, ◌∙◌, subst}
 use mathlib.Core.Bool.{false, false≢true}
 use mathlib.Core.List.{List, []}
-use Prim.Native.Nat.{ℕ, ◌-◌, ◌*◌, ◌<◌, ◌≤◌}
+use Prim.Native.Nat.{ℕ, ◌*◌, ◌<◌, ◌≤◌}
 use native.Mathlib.Omega.{arith}
 use lib.Dec.{eqb}
-use lib.ListN.{length, take, drop, replicate}
+use lib.ListN.{length, take, replicate}
 use lib.Seq.{length-take-le}
 use Rattle.rules.specs.Limits.{VARIABLES, FACTS, RULEWORDS}
 use Rattle.rules.specs.Out.{Out, ok, then, ask}
-use Rattle.rules.specs.Sexp.{Sexp, cons, count, items}
+use Rattle.rules.specs.Sexp.{Sexp, Sexps, cons, count, item, items}
 use Rattle.rules.specs.Find.{Set, rising}
 use Rattle.rules.specs.Tree.{Tree, none}
 use Rattle.rules.specs.Store.{Made}
@@ -21,11 +21,11 @@ use Rattle.rules.specs.Induct.{Motive, motive_vars, induct_cases, induct_on}
 use Rattle.rules.specs.Laws.Out.{then_then}
 use Rattle.rules.specs.Laws.Theory.{All}
 use Rattle.rules.specs.Laws.Rising.{rising_all_of}
-use Rattle.sexp.specs.Items.{item_at, behind}
-use Rattle.sexp.specs.ItemLaws.{at_inside}
-use Rattle.sexp.specs.WalkLaws.{Walk, ListIs, walk_start, walk_atom, walk_list}
-use Rattle.sexp.specs.declared.items.Item.{Item}
-use Rattle.sexp.specs.declared.items.Item.TheVariants.{Atom, List as Part}
+use denote.Ref.{Bor}
+use Rattle.sexp.specs.Items.{Holds}
+use Rattle.sexp.specs.WalkLaws.{AtomIs}
+use Rattle.sexp.specs.Each.{ListIn, ListOf}
+use Rattle.reading.proofs.Missing.{there, absent}
 use Rattle.terms.specs.declared.store.Mark.{Mark}
 use Rattle.terms.specs.Table.{Below, made, tree, args_of}
 use Rattle.terms.specs.Sets.{holds}
@@ -42,13 +42,13 @@ use Rattle.state.specs.Members.{rising_under, rising_empty}
 use Rattle.reading.specs.Given.{ReadsItem}
 use Rattle.reading.specs.Answers.{TermRead}
 use Rattle.questions.specs.declared.Question.{Question}
-use Rattle.std.specs.Prelude.{Result, Ok, Err}
+use Rattle.std.specs.Prelude.{Option, Result, Ok, Err}
+use Rattle.std.specs.Result.{result_ok}
 use Rattle.referring.specs.declared.support.Derived.{Derived}
 use Rattle.referring.specs.Derived.{DerivedRead, DerivedBy, alone}
 use Rattle.referring.specs.Laws.Refers.{refers_on}
 use Rattle.terms.specs.Laws.Below.{below_grown}
 use Rattle.referring.specs.Recall.{judgment_cells}
-use Rattle.reading.specs.Laws.Walks.{walk_next}
 use Rattle.induction.specs.Inducing.{motive_in, Motived, on_motive, MotiveItems, InductForm}
 use Rattle.induction.proofs.Inducts.{cells_are, cells_below}
 use Rattle.referring.specs.Laws.Sounds.{grown_grows}
@@ -79,9 +79,6 @@ module _ {K : Names} {facts footings lists : List ℕ} {n : Sizes} {I W : List �
     (g : InductForm K facts footings lists n I W m x hyps cells) where
   abbrev pub form_reads : ReadsItem K n I W m cells
   form_reads = record { S = g.S; x = g.y; ys = cons g.z g.zs; reads = g.refers.reads; holds = g.items }
-
-  pub form_cell : 0 < length cells
-  form_cell = at_inside (walk_start g.items).here
 
   hs_under : rising FACTS (holds hyps) ≡ rising (length g.S.facts) (holds hyps)
   hs_under = rising_under (length g.S.facts) FACTS (holds hyps) (omega (arith, g.refers.recorded.rows.row12)) g.earlier
@@ -120,100 +117,101 @@ module _ {K : Names} {facts footings lists : List ℕ} {n : Sizes} {I W : List �
           (λ w E. ok (fact (rising (length g.S.facts) (holds hyps)) (tree J X new j)) E)))
       judged = on_ok _ begun read.went
 
-      module _ {next : ℕ} (u : next ≡ behind 0 (item_at cells 0)) where
-        second : Walk K.text cells next (cons g.z g.zs)
-        second = walk_next (walk_start g.items) u
+      -- what `list` answers of the item behind the judgment
+      cases_are : (A : Sexp → Type 0) → ((xs : Sexps) → Holds K.text cells xs → 1 < count xs → A (item xs 1)) → A g.z
+      unfolding item count
+      cases_are A f = f (cons g.y (cons g.z g.zs)) g.items (omega arith)
 
-        pub form_next : next < length cells
-        form_next = at_inside second.here
+      module _ (o : Option (Bor (List ℕ))) {r : Result (Bor (List ℕ)) Question} (k : o ≡ result_ok r)
+          (a' : (t : List ℕ) (xs : Sexps) → Holds t cells xs → 1 < count xs → ListIn t cells (item xs 1) o) where
+        pub form_list : {part : Bor (List ℕ)} → r ≡ Ok part → ListOf K.text cells g.z part.now
+        form_list f = rw (there o r k f) at (cases_are (λ y. ListIn K.text cells y o) (a' K.text))
 
-        module _ {thing : Item} (f : thing ≡ item_at cells next) where
-          pub form_atom_lem : {p : ℕ} → thing ≡ Atom p → Stopped I W J X m wanted 41 0 new
-          unfolding items
-          form_atom_lem q = on_stop _ judged (ap (λ (z : Sexp). items 41 z (made J X new)) (walk_atom second f q).is)
+        pub form_atom_lem : {e : Question} → r ≡ Err e → Stopped I W J X m wanted 41 0 new
+        unfolding items
+        form_atom_lem f =
+            let p : (p : ℕ) × AtomIs K.text g.z p = rw (absent o r k f) at (cases_are (λ y. ListIn K.text cells y o) (a' K.text)) in
+            on_stop _ judged (ap (λ (z : Sexp). items 41 z (made J X new)) p.1.is)
 
-          module _ {from end : ℕ} (q : thing ≡ Part from end) where
-            pub form_list : ListIs K.text cells g.z from end
-            form_list = walk_list second f q
+      module _ {part : List ℕ} (q : ListOf K.text cells g.z part) where
+        itemed : On I W m wanted J X new
+            (then (on_motive g.S (motive g.S x (rising (length g.S.facts) (holds hyps)) (tree J X new j)) q.items (made J X new))
+            (λ w E. ok (fact (rising (length g.S.facts) (holds hyps)) (tree J X new j)) E))
+        unfolding items
+        itemed = on_pure _ judged (ap (λ (z : Sexp). items 41 z (made J X new)) q.is)
 
-            itemed : On I W m wanted J X new
-                (then (on_motive g.S (motive g.S x (rising (length g.S.facts) (holds hyps)) (tree J X new j)) form_list.items (made J X new))
+        module _ (out : List ℕ) {width : ℕ} (long : length out ≡ FACTS)
+            (h : (width ≤ FACTS) × (take width out ≡ judgment_cells facts (rising FACTS (holds hyps)))) where
+          premises_are : args_of (made J X new) (take width out) ≡ judgments_at g.S.facts (rising (length g.S.facts) (holds hyps))
+          premises_are =
+              ap (args_of (made J X new)) h.1
+              ∙ cells_are (refers_on g.refers (grown_grows read.went.grown) read.went.grown.good).recorded (rising FACTS (holds hyps)) hs_known
+              ∙ ap (judgments_at g.S.facts) hs_under
+
+          pub form_motived : Motived J X new x j (take width out)
+          form_motived =
+              record {
+                good = read.went.grown.good;
+                small = form_sorts.1;
+                there = read.there;
+                known = subst (Below new.terms) (sym h.1)
+                    (below_grown (judgment_cells facts (rising FACTS (holds hyps))) (omega (arith, made_length I W m, read.went.grown.more))
+                    (cells_below g.refers.recorded (rising FACTS (holds hyps)) hs_known));
+                few = omega (arith, length-take-le width out (omega (arith, h.0, long)), h.0);
+              }
+
+          abbrev pub form_motive : MotiveItems K facts footings lists n J X new x j (take width out) part
+          form_motive =
+              record {
+                S = g.S;
+                xs = q.items;
+                refers = refers_on g.refers (grown_grows read.went.grown) read.went.grown.good;
+                motived = form_motived;
+                items = q.holds;
+              }
+
+          module _ {sort : ℕ} (s : sort ≡ cell 4 K.vars x 0) where
+            moved : On I W m wanted J X new
+                (then (on_motive g.S (motive_in (made J X new) x sort j (take width out)) q.items (made J X new))
                 (λ w E. ok (fact (rising (length g.S.facts) (holds hyps)) (tree J X new j)) E))
-            unfolding items
-            itemed = on_pure _ judged (ap (λ (z : Sexp). items 41 z (made J X new)) form_list.is)
+            moved =
+                on_is itemed
+                (λ i. then (on_motive g.S
+                (record {
+                  variable = x;
+                  sort = sym (s ∙ var_sort_is g.refers.reads.spelling.vars.stand x) i;
+                  judgment = tree J X new j;
+                  premises = sym premises_are i;
+                }) q.items (made J X new))
+                (λ w E. ok (fact (rising (length g.S.facts) (holds hyps)) (tree J X new j)) E))
 
-            module _ (out : List ℕ) {width : ℕ} (long : length out ≡ FACTS)
-                (h : (width ≤ FACTS) × (take width out ≡ judgment_cells facts (rising FACTS (holds hyps)))) where
-              premises_are : args_of (made J X new) (take width out) ≡ judgments_at g.S.facts (rising (length g.S.facts) (holds hyps))
-              premises_are =
-                  ap (args_of (made J X new)) h.1
-                  ∙ cells_are (refers_on g.refers (grown_grows read.went.grown) read.went.grown.good).recorded (rising FACTS (holds hyps)) hs_known
-                  ∙ ap (judgments_at g.S.facts) hs_under
+            module _ (Y Z : List ℕ) (last : Mark) where
+              pub form_refused : {k d : ℕ} →
+                  ((h : MotiveItems K facts footings lists n J X new x j (take width out) part) →
+                  Stopped J X Y Z new (on_motive h.S (motive_in (made J X new) x sort j (take width out)) h.xs (made J X new)) k d last) →
+                  Stopped I W Y Z m wanted k d last
+              form_refused p = on_no _ moved (p form_motive)
 
-              pub form_motived : Motived J X new x j (take width out)
-              form_motived =
+              pub form_derived :
+                  ((h : MotiveItems K facts footings lists n J X new x j (take width out) part) →
+                  Went J X Y Z new (on_motive h.S (motive_in (made J X new) x sort j (take width out)) h.xs (made J X new)) tt last) →
+                  DerivedRead Fact I W Y Z m g.S wanted alone hyps (replicate RULEWORDS 0) j 0 last
+              form_derived p =
+                  let d : Went J X Y Z new (on_motive g.S (motive_in (made J X new) x sort j (take width out)) q.items (made J X new)) tt last = p form_motive in
                   record {
-                    good = read.went.grown.good;
-                    small = form_sorts.1;
-                    there = read.there;
-                    known = subst (Below new.terms) (sym h.1)
-                        (below_grown (judgment_cells facts (rising FACTS (holds hyps))) (omega (arith, made_length I W m, read.went.grown.more))
-                        (cells_below g.refers.recorded (rising FACTS (holds hyps)) hs_known));
-                    few = omega (arith, length-take-le width out (omega (arith, h.0, long)), h.0);
+                    went = on_done (on_is (on_ok _ moved d)
+                        (λ i. ok (record {
+                          judgment = sym (grown_tree d.grown j read.there) i;
+                          hyps = rising (length g.S.facts) (holds hyps);
+                          assumed = false;
+                          premises = none;
+                          general = [];
+                          footing = sym (rising_empty (length g.S.theory.rules) (holds (replicate RULEWORDS 0)) (λ v. ap (λ (a : Set). a v) (holds_zero RULEWORDS))) i;
+                        }) (made Y Z last)));
+                    there = grown_there d.grown j read.there;
+                    earlier = g.earlier;
+                    known = λ v z. absurd (false≢true (sym (ap (λ (a : Set). a v) (holds_zero RULEWORDS)) ∙ z));
                   }
-
-              abbrev pub form_motive : MotiveItems K facts footings lists n J X new x j (take width out) (take (end - from) (drop from cells))
-              form_motive =
-                  record {
-                    S = g.S;
-                    xs = form_list.items;
-                    refers = refers_on g.refers (grown_grows read.went.grown) read.went.grown.good;
-                    motived = form_motived;
-                    items = form_list.holds;
-                  }
-
-              module _ {sort : ℕ} (s : sort ≡ cell 4 K.vars x 0) where
-                moved : On I W m wanted J X new
-                    (then (on_motive g.S (motive_in (made J X new) x sort j (take width out)) form_list.items (made J X new))
-                    (λ w E. ok (fact (rising (length g.S.facts) (holds hyps)) (tree J X new j)) E))
-                moved =
-                    on_is itemed
-                    (λ i. then (on_motive g.S
-                    (record {
-                      variable = x;
-                      sort = sym (s ∙ var_sort_is g.refers.reads.spelling.vars.stand x) i;
-                      judgment = tree J X new j;
-                      premises = sym premises_are i;
-                    }) form_list.items (made J X new))
-                    (λ w E. ok (fact (rising (length g.S.facts) (holds hyps)) (tree J X new j)) E))
-
-                module _ (Y Z : List ℕ) (last : Mark) where
-                  pub form_refused : {k d : ℕ} →
-                      ((h : MotiveItems K facts footings lists n J X new x j (take width out) (take (end - from) (drop from cells))) →
-                      Stopped J X Y Z new (on_motive h.S (motive_in (made J X new) x sort j (take width out)) h.xs (made J X new)) k d last) →
-                      Stopped I W Y Z m wanted k d last
-                  form_refused p = on_no _ moved (p form_motive)
-
-                  pub form_derived :
-                      ((h : MotiveItems K facts footings lists n J X new x j (take width out) (take (end - from) (drop from cells))) →
-                      Went J X Y Z new (on_motive h.S (motive_in (made J X new) x sort j (take width out)) h.xs (made J X new)) tt last) →
-                      DerivedRead Fact I W Y Z m g.S wanted alone hyps (replicate RULEWORDS 0) j 0 last
-                  form_derived p =
-                      let d : Went J X Y Z new (on_motive g.S (motive_in (made J X new) x sort j (take width out)) form_list.items (made J X new)) tt last = p form_motive in
-                      record {
-                        went = on_done (on_is (on_ok _ moved d)
-                            (λ i. ok (record {
-                              judgment = sym (grown_tree d.grown j read.there) i;
-                              hyps = rising (length g.S.facts) (holds hyps);
-                              assumed = false;
-                              premises = none;
-                              general = [];
-                              footing = sym (rising_empty (length g.S.theory.rules) (holds (replicate RULEWORDS 0)) (λ v. ap (λ (a : Set). a v) (holds_zero RULEWORDS))) i;
-                            }) (made Y Z last)));
-                        there = grown_there d.grown j read.there;
-                        earlier = g.earlier;
-                        known = λ v z. absurd (false≢true (sym (ap (λ (a : Set). a v) (holds_zero RULEWORDS)) ∙ z));
-                      }
 
 -- what an answer says behind what went before
 pub derived_on : {I W J X : List ℕ} {old now : Mark} {K L : Out Made Fact} (S : State) (Y Z : List ℕ) (new : Mark) (r : Result Derived Question) → On I W old K J X now L →

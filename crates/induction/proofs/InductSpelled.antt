@@ -1,11 +1,12 @@
 -- The two spellings of `induct`: with hypotheses and without. Assumes nothing.
-use mathlib.Core.Path.{◌≡◌, sym, ap, ◌∙◌, subst}
+use mathlib.Core.Path.{◌≡◌, refl, sym, ap, ◌∙◌, subst}
 use mathlib.Core.Bool.{true, false, false≢true}
-use Rattle.std.specs.Prelude.{Some as some, None as nothing, Option, Result}
+use Rattle.std.specs.Prelude.{Some as some, None as nothing, Option, Result, Ok, Err, ok_or}
+use Rattle.std.specs.Result.{result_ok}
 use mathlib.Core.List.{List, []}
-use Prim.Native.Nat.{ℕ, ◌-◌, ◌<◌, ◌≤◌}
+use Prim.Native.Nat.{ℕ, ◌<◌, ◌≤◌}
 use native.Mathlib.Omega.{arith}
-use lib.ListN.{length, take, drop, replicate, length-replicate}
+use lib.ListN.{length, drop, replicate}
 use Rattle.rules.specs.Limits.{FACTWORDS}
 use Rattle.rules.specs.Out.{Out, refuse, then, found}
 use Rattle.rules.specs.Sexp.{Sexp, Sexps, cons, item, rest}
@@ -21,9 +22,7 @@ use Rattle.questions.specs.declared.Question.{Question}
 use Rattle.questions.specs.declared.Question.TheVariants.{Binding}
 use Rattle.questions.specs.Numbers.{number_of, detail_of}
 use Rattle.sexp.specs.Encode.{encodes}
-use Rattle.sexp.specs.Items.{Holds, item_at, behind, place}
-use Rattle.sexp.specs.ItemLaws.{at_inside}
-use Rattle.sexp.specs.WalkLaws.{Walk, walk_rest, rest_walk}
+use Rattle.sexp.specs.Items.{Holds, place}
 use Rattle.sexp.specs.FoundLaws.{found_at, found_missing}
 use Rattle.terms.specs.declared.store.Mark.{Mark}
 use Rattle.terms.specs.Table.{made}
@@ -39,38 +38,34 @@ use Rattle.reading.specs.Given.{FactsItem}
 use Rattle.reading.specs.Answers.{HypsRead}
 use Rattle.referring.specs.declared.support.Derived.{Derived}
 use Rattle.referring.specs.Derived.{FactForm, DerivedBy, alone}
-use Rattle.reading.specs.Laws.Walks.{walk_next}
-use Rattle.induction.specs.Inducing.{SubjectItems, InductForm}
+use Rattle.reading.proofs.Missing.{there, absent, question_is}
+use Rattle.referring.specs.Laws.Behind.{from_holds}
+use Rattle.induction.specs.Inducing.{SubjectItems, SubjectAs, InductForm}
 use Rattle.reading.specs.Laws.Lists.{variable_below, listed_rises}
 use Rattle.induction.proofs.InductForms.{derived_on}
 
 -- The variable -----------------------------------------------------------------------------------------------------------------------------
 
 module _ {goals text vars : List ℕ} {count : ℕ} {cells : List ℕ} (g : SubjectItems goals text vars count cells) where
-  module _ {at : ℕ} (a : (ys : Sexps) → cells ≡ encodes ys → at ≡ place ys 2) where
-    pub subject_walk : Walk text cells at (rest g.xs 2)
-    subject_walk = rest_walk g.holds 2 at (a g.xs g.holds.cells)
+  module _ {behind : List ℕ} (a : (ys : Sexps) → cells ≡ encodes ys → behind ≡ drop (place ys 2) cells) where
+    at_subject : Holds text behind (cons (item g.xs 2) (rest g.xs 3))
+    at_subject = subst (λ (z : Sexps). Holds text behind z) (rest_item g.xs 2 (omega (arith, g.many))) (from_holds g.holds 2 a)
 
-    at_subject : Walk text cells at (cons (item g.xs 2) (rest g.xs 3))
-    at_subject = subst (λ (z : Sexps). Walk text cells at z) (rest_item g.xs 2 (omega (arith, g.many))) subject_walk
+    pub subject_asks : FirstItem text behind × SomeVars goals text vars count
+    subject_asks = (record { x = item g.xs 2; ys = rest g.xs 3; holds = at_subject }, (g.S.vars, g.held))
 
-    pub subject_high : at ≤ length cells
-    subject_high = at_subject.here.high
-
-    pub subject_asks : FirstItem text (take (length cells - at) (drop at cells)) × SomeVars goals text vars count
-    subject_asks = (record { x = item g.xs 2; ys = rest g.xs 3; holds = walk_rest at_subject }, (g.S.vars, g.held))
-
-    module _ {r : Option ℕ}
-        (b : (vs : List Var) (x : Sexp) (ys : Sexps) → VarsHeld goals text vars count vs → Holds text (take (length cells - at) (drop at cells)) (cons x ys) →
-        r ≡ (variable_in vs x)) where
+    module _ {r : Option ℕ} (b : (vs : List Var) (x : Sexp) (ys : Sexps) → VarsHeld goals text vars count vs → Holds text behind (cons x ys) → r ≡ (variable_in vs x)) where
       told : r ≡ (variable_in g.S.vars (item g.xs 2))
-      told = b g.S.vars (item g.xs 2) (rest g.xs 3) g.held (walk_rest at_subject)
+      told = b g.S.vars (item g.xs 2) (rest g.xs 3) g.held at_subject
 
-      pub subject_unknown : r ≡ nothing → variable_in g.S.vars (item g.xs 2) ≡ nothing
-      subject_unknown e = found_missing (variable_in g.S.vars (item g.xs 2)) r told e
+      module _ {o : Result ℕ Question} (k : r ≡ result_ok o) (e : o ≡ ok_or r Binding) where
+        subject_by : (s : Result ℕ Question) → o ≡ s → SubjectAs g.S.vars g.xs s
+        subject_by (Ok x) f = found_at (variable_in g.S.vars (item g.xs 2)) r x told (there r o k f)
+        subject_by (Err q) f = (found_missing (variable_in g.S.vars (item g.xs 2)) r told (absent r o k f), question_is r o k e f)
 
-      pub subject_known : {x : ℕ} → r ≡ some x → variable_in g.S.vars (item g.xs 2) ≡ some x
-      subject_known {x} e = found_at (variable_in g.S.vars (item g.xs 2)) r x told e
+        -- the question is put where it is missing
+        pub subject_is : SubjectAs g.S.vars g.xs o
+        subject_is = subject_by o refl
 
 -- The form -----------------------------------------------------------------------------------------------------------------------------------
 
@@ -115,39 +110,26 @@ module _ {K : Names} {facts footings lists : List ℕ} {n : Sizes} {I W : List �
         subst (λ (p : Question). Stopped I W I W m (induct_with g.S g.xs (made I W m)) (number_of p) (detail_of p) m) (sym binding)
         (on_found_none _ 36 begin_with (e spelled_subject).0)
 
-  module _ {x at : ℕ}
-      (e : (h : SubjectItems K.goals K.text K.vars n.vars cells) → (variable_in h.S.vars (item h.xs 2) ≡ some x) × Walk K.text cells at (rest h.xs 2)) where
+  module _ {x : ℕ} (e : (h : SubjectItems K.goals K.text K.vars n.vars cells) → variable_in h.S.vars (item h.xs 2) ≡ some x) where
     named : variable_in g.S.vars (item g.xs 2) ≡ some x
-    named = (e spelled_subject).0
+    named = e spelled_subject
 
     pub spelled_known : x < length g.S.vars
     spelled_known = variable_below g.S.vars (item g.xs 2) x named
 
-    at_third : Walk K.text cells at (cons (item g.xs 2) (rest g.xs 3))
-    at_third = subst (λ (z : Sexps). Walk K.text cells at z) (rest_item g.xs 2 (omega (arith, g.many, l))) (e spelled_subject).1
-
-    pub third_cell : at < length cells
-    third_cell = at_inside at_third.here
-
-    module _ {next : ℕ} (u : next ≡ behind at (item_at cells at)) where
-      pub at_fourth : Walk K.text cells next (cons (item g.xs 3) (rest g.xs 4))
-      at_fourth = subst (λ (z : Sexps). Walk K.text cells next z) fourth (walk_next at_third u)
-
-      pub fourth_high : next ≤ length cells
-      fourth_high = at_fourth.here.high
-
-      pub fourth_cell : next < length cells
-      fourth_cell = at_inside at_fourth.here
+    module _ {behind : List ℕ} (u : (ys : Sexps) → cells ≡ encodes ys → behind ≡ drop (place ys 3) cells) where
+      pub at_fourth : Holds K.text behind (cons (item g.xs 3) (rest g.xs 4))
+      at_fourth = subst (λ (z : Sexps). Holds K.text behind z) fourth (from_holds g.holds 3 u)
 
       -- Without hypotheses -----------------------------------------------------------------------------------------------------------------------
 
       pub no_hyps : (v : ℕ) → holds (replicate FACTWORDS 0) v ≡ false
       no_hyps v = ap (λ (a : Set). a v) (holds_zero FACTWORDS)
 
-      pub fourth_items : Holds K.text (take (length cells - next) (drop next cells)) (cons (item g.xs 3) (cons (item g.xs 4) (rest g.xs 5)))
-      fourth_items = subst (λ (w : Sexps). Holds K.text (take (length cells - next) (drop next cells)) (cons (item g.xs 3) w)) fifth (walk_rest at_fourth)
+      pub fourth_items : Holds K.text behind (cons (item g.xs 3) (cons (item g.xs 4) (rest g.xs 5)))
+      fourth_items = subst (λ (w : Sexps). Holds K.text behind (cons (item g.xs 3) w)) fifth at_fourth
 
-      abbrev pub plain_form : InductForm K facts footings lists n I W m x (replicate FACTWORDS 0) (take (length cells - next) (drop next cells))
+      abbrev pub plain_form : InductForm K facts footings lists n I W m x (replicate FACTWORDS 0) behind
       plain_form =
           record {
             S = g.S;
@@ -157,12 +139,11 @@ module _ {K : Names} {facts footings lists : List ℕ} {n : Sizes} {I W : List �
             refers = g.refers;
             variable_known = spelled_known;
             earlier = λ v q. absurd (false≢true (sym (no_hyps v) ∙ q));
-            long = length-replicate {A = ℕ} FACTWORDS 0;
             items = fourth_items;
           }
 
       pub spelled_derived : (Y Z : List ℕ) (new : Mark) (o : Result Derived Question) →
-          ((h : InductForm K facts footings lists n I W m x (replicate FACTWORDS 0) (take (length cells - next) (drop next cells))) →
+          ((h : InductForm K facts footings lists n I W m x (replicate FACTWORDS 0) behind) →
           DerivedBy Fact I W Y Z m new h.S (induct_on h.S x (rising (length h.S.facts) (holds (replicate FACTWORDS 0))) h.y h.z (made I W m)) alone o) →
           DerivedBy Fact I W Y Z m new g.S (induct g.S g.xs (made I W m)) alone o
       spelled_derived Y Z new o d =
@@ -173,7 +154,7 @@ module _ {K : Names} {facts footings lists : List ℕ} {n : Sizes} {I W : List �
 
       -- With hypotheses --------------------------------------------------------------------------------------------------------------------------
 
-      abbrev pub hyps_asked : FactsItem K.text facts n (take (length cells - next) (drop next cells))
+      abbrev pub hyps_asked : FactsItem K.text facts n behind
       hyps_asked =
           record {
             S = g.S;
@@ -183,7 +164,7 @@ module _ {K : Names} {facts footings lists : List ℕ} {n : Sizes} {I W : List �
             x = item g.xs 3;
             ys = rest g.xs 4;
             recorded = g.refers.recorded;
-            holds = walk_rest at_fourth;
+            holds = at_fourth;
           }
 
       chosen : On I W m (induct_with g.S g.xs (made I W m)) I W m
@@ -191,12 +172,12 @@ module _ {K : Names} {facts footings lists : List ℕ} {n : Sizes} {I W : List �
       chosen = on_found_some _ 36 begin_with named
 
       pub hyps_refused : {before set : List ℕ} {q d : ℕ} →
-          ((h : FactsItem K.text facts n (take (length cells - next) (drop next cells))) →
+          ((h : FactsItem K.text facts n behind) →
           ((M : Made) → hyp_list is_plain h.S h.x M ≡ refuse q d M) × ((set ≡ before) × (d ≡ 0))) →
           Stopped I W I W m (induct_with g.S g.xs (made I W m)) q d m
       hyps_refused c = on_stop _ chosen ((c hyps_asked).0 (made I W m))
 
-      module _ (set : List ℕ) (c : (h : FactsItem K.text facts n (take (length cells - next) (drop next cells))) → HypsRead is_plain h.S h.x set) (six : 6 ≤ least) where
+      module _ (set : List ℕ) (c : (h : FactsItem K.text facts n behind) → HypsRead is_plain h.S h.x set) (six : 6 ≤ least) where
         read : HypsRead is_plain g.S (item g.xs 3) set
         read = c hyps_asked
 
@@ -212,18 +193,12 @@ module _ {K : Names} {facts footings lists : List ℕ} {n : Sizes} {I W : List �
         sixth : rest g.xs 5 ≡ cons (item g.xs 5) (rest g.xs 6)
         sixth = rest_item g.xs 5 (omega (arith, g.many, six))
 
-        module _ {last : ℕ} (w : last ≡ behind next (item_at cells next)) where
-          at_fifth : Walk K.text cells last (cons (item g.xs 4) (rest g.xs 5))
-          at_fifth = subst (λ (z : Sexps). Walk K.text cells last z) fifth (walk_next at_fourth w)
+        module _ {last : List ℕ} (w : (ys : Sexps) → cells ≡ encodes ys → last ≡ drop (place ys 4) cells) where
+          pub fifth_items : Holds K.text last (cons (item g.xs 4) (cons (item g.xs 5) (rest g.xs 6)))
+          fifth_items = subst (λ (z : Sexps). Holds K.text last (cons (item g.xs 4) z)) sixth (subst (λ (z : Sexps). Holds K.text last z) fifth (from_holds g.holds 4 w))
 
-          pub fifth_high : last ≤ length cells
-          fifth_high = at_fifth.here.high
-
-          pub fifth_items : Holds K.text (take (length cells - last) (drop last cells)) (cons (item g.xs 4) (cons (item g.xs 5) (rest g.xs 6)))
-          fifth_items = subst (λ (z : Sexps). Holds K.text (take (length cells - last) (drop last cells)) (cons (item g.xs 4) z)) sixth (walk_rest at_fifth)
-
-          abbrev pub with_form : length set ≡ FACTWORDS → InductForm K facts footings lists n I W m x set (take (length cells - last) (drop last cells))
-          with_form z =
+          abbrev pub with_form : InductForm K facts footings lists n I W m x set last
+          with_form =
               record {
                 S = g.S;
                 y = item g.xs 4;
@@ -232,16 +207,15 @@ module _ {K : Names} {facts footings lists : List ℕ} {n : Sizes} {I W : List �
                 refers = g.refers;
                 variable_known = spelled_known;
                 earlier = hyps_earlier;
-                long = z;
                 items = fifth_items;
               }
 
-          pub with_derived : length set ≡ FACTWORDS → (Y Z : List ℕ) (new : Mark) (o : Result Derived Question) →
-              ((h : InductForm K facts footings lists n I W m x set (take (length cells - last) (drop last cells))) →
+          pub with_derived : (Y Z : List ℕ) (new : Mark) (o : Result Derived Question) →
+              ((h : InductForm K facts footings lists n I W m x set last) →
               DerivedBy Fact I W Y Z m new h.S (induct_on h.S x (rising (length h.S.facts) (holds set)) h.y h.z (made I W m)) alone o) →
               DerivedBy Fact I W Y Z m new g.S (induct_with g.S g.xs (made I W m)) alone o
-          with_derived z Y Z new o d =
+          with_derived Y Z new o d =
               derived_on g.S Y Z new o
               (on_is (on_pure _ chosen (read.are (made I W m)))
               (ap (λ (hs : List ℕ). induct_on g.S x hs (item g.xs 4) (item g.xs 5) (made I W m)) rises))
-              (d (with_form z))
+              (d with_form)

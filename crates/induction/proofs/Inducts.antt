@@ -199,10 +199,10 @@ module _ {facts lists : List ℕ} {n : Sizes} {plain used : List ℕ} {x w : ℕ
         || (sym (g.premises_are ∙ eq-eqb w 0 q) i && any (λ y. same_tree y.judgment (tree g.I g.W g.m t)) (hyps_in (made g.I g.W g.m) (sym q i) g.many ids)))
 
   -- what the questions of the fact are given
-  abbrev pub rest_given : (plain' : List ℕ) → length plain' ≡ length plain →
+  abbrev pub rest_given : (plain' : List ℕ) →
       ((t : ℕ) → t < g.m.terms → holds plain' t ≡ plain_at g.M g.ps (hyps_in (made g.I g.W g.m) w g.many ids) (tree g.I g.W g.m t)) →
       Resting facts lists n plain' used x w ids
-  rest_given plain' a e =
+  rest_given plain' e =
       record {
         S = g.S;
         footings = g.footings;
@@ -216,9 +216,7 @@ module _ {facts lists : List ℕ} {n : Sizes} {plain used : List ℕ} {x w : ℕ
         good = g.good;
         variable_is = g.variable_is;
         used_are = g.used_are;
-        wide = g.wide;
         plain_are = e;
-        long = a ∙ g.long;
         narrow = g.narrow;
         filled = g.filled;
         known = g.known;

@@ -6,20 +6,24 @@ use Prim.Native.Nat.{ℕ, zero, suc, ◌+◌, ◌-◌, ◌*◌, ◌<◌, ◌≤�
 use native.Mathlib.Omega.{arith}
 use native.Mathlib.Decide.{dec_lt}
 use native.Mathlib.Nat.{suc-mul}
-use native.Mathlib.Numerals.{add-one}
 use lib.Dec.{eqb}
-use lib.ListN.{length, get_or, take, drop, length-drop, length-append, get_or-append, drop_of_length-le}
+use lib.ListN.{length, get_or, take, drop, length-drop, length-append, get_or-append}
 use lib.Pointwise.{pointwise}
-use lib.Seq.{drop-cons, drop_at, get_or-drop, get_or-take, take-nil, length-take-le}
-use borrow.Author.Tests.{eq-eqb, ne_eqb}
-use Rattle.rules.specs.Find.{Set, any, all}
+use lib.Seq.{drop_at, get_or-drop, get_or-take, take-nil, length-take-le}
+use Rattle.rules.specs.Find.{Set, any}
 use Rattle.rules.specs.Tree.{same_tree, same_trees}
 use Rattle.terms.specs.declared.store.Mark.{Mark}
 use Rattle.terms.specs.Table.{Below, made, tree, args_of, Good}
 use Rattle.terms.specs.Node.{same_words}
 use Rattle.terms.specs.Laws.Numbers.{same_number, same_numbers}
 use Rattle.induction.specs.Inducing.{hyps_in, row_among}
-use Rattle.std.proofs.Math.Bool.{and-true, and-false}
+use denote.Ref.{Bor}
+use denote.Param.Members.{Mut}
+use Rattle.std.specs.Fn.{Called}
+use Rattle.std.specs.Prelude.{Option, Some, None}
+use Rattle.std.specs.Option.{MatchOption}
+use Rattle.std.specs.Iterator.{Yields, YieldsThen}
+use Rattle.std.specs.List.{FoldsTo}
 
 -- Cells compared ------------------------------------------------------------------------------------------------------------------------
 
@@ -39,38 +43,11 @@ slices_same (x ∷ xs) (y ∷ ys) = go (eqb x y) (slices_same xs ys)
 abbrev pub other : Set → ℕ → ℕ → Bool
 other used x g = used g && not (eqb g x)
 
-pub record Generalising (own : List ℕ) (used : Set) (x k : ℕ) : Type 0 where
-  pub on : all (other used x) own ≡ all (other used x) (drop k own)
-  pub near : k ≤ length own
-
-module _ {own : List ℕ} {used : Set} {x k : ℕ} (h : Generalising own used x k) where
-  generalising_step : k < length own → all (other used x) own ≡ elim (other used x (get_or own k 0)) [ true ↦ all (other used x) (drop (suc k) own) | false ↦ false ]
-  unfolding all
-  generalising_step l = h.on ∙ ap (all (other used x)) (drop-cons own k 0 l)
-
-  refused : k < length own → other used x (get_or own k 0) ≡ false → false ≡ all (other used x) own
-  refused l e = sym (generalising_step l ∙ ap (λ (t : Bool). elim t [ true ↦ all (other used x) (drop (suc k) own) | false ↦ false ]) e)
-
-  pub generalising_outside : k < length own → used (get_or own k 0) ≡ false → false ≡ all (other used x) own
-  generalising_outside l e = refused l (ap (λ (b : Bool). b && not (eqb (get_or own k 0) x)) e)
-
-  pub generalising_itself : k < length own → used (get_or own k 0) ≡ true → get_or own k 0 ≡ x → false ≡ all (other used x) own
-  generalising_itself l e q = refused l (λ i. e i && not (eq-eqb (get_or own k 0) x q i))
-
-  pub generalising_again : k < length own → used (get_or own k 0) ≡ true → (get_or own k 0 ≡ x → ⊥) → Generalising own used x (k + 1)
-  generalising_again l e q =
-      let z : other used x (get_or own k 0) ≡ true = λ i. e i && not (ne_eqb (get_or own k 0) x q i) in
-      record {
-        on = generalising_step l ∙ ap (λ (t : Bool). elim t [ true ↦ all (other used x) (drop (suc k) own) | false ↦ false ]) z
-            ∙ ap (λ (i : ℕ). all (other used x) (drop i own)) (sym (add-one k));
-        near = omega arith;
-      }
-
-  pub generalising_done : length own ≤ k → true ≡ all (other used x) own
-  unfolding all
-  generalising_done l = sym (h.on ∙ ap (all (other used x)) (drop_of_length-le own l))
-
 -- Rows of induction hypotheses --------------------------------------------------------------------------------------------------------------
+
+-- a row has these premises and this judgment
+abbrev pub is_row : ℕ → List ℕ → ℕ → List ℕ → Bool
+is_row w own j row = eqb (get_or row w 0) j && pointwise eqb (take w row) own
 
 -- what is left, and so many rows it is
 pub record Rowing (own : List ℕ) (j w : ℕ) (ids : List ℕ) (many : ℕ) (rest : List ℕ) : Type 0 where
@@ -115,28 +92,50 @@ module _ {own : List ℕ} {j w : ℕ} {ids : List ℕ} {many : ℕ} {rest : List
         take_front (x ∷ xs) ys zero q = refl
         take_front (x ∷ xs) ys (suc k) q = ap (λ (l : List ℕ). x ∷ l) (take_front xs ys k (omega arith))
 
+    swap : (p q : Bool) → (p && q) ≡ (q && p)
+    swap true true = refl
+    swap true false = refl
+    swap false true = refl
+    swap false false = refl
+
+    tested : (same_words (take w row) own && eqb (get_or row w 0) j) ≡ is_row w own j row
+    tested = ap (λ (b : Bool). b && eqb (get_or row w 0) j) (sym (slices_same (take w row) own)) ∙ swap (pointwise eqb (take w row) own) (eqb (get_or row w 0) j)
+
     -- it is not that one
-    passed : (same_words (take w row) own && eqb (get_or row w 0) j) ≡ false → Rowing own j w ids many rest'
-    passed d =
+    pub rowing_on : is_row w own j row ≡ false → Rowing own j w ids many rest'
+    rowing_on d =
         record {
           left = h.left - 1;
-          on = step ∙ ap (λ (b : Bool). b || row_among w (h.left - 1) rest' own j) d;
+          on = step ∙ ap (λ (b : Bool). b || row_among w (h.left - 1) rest' own j) (tested ∙ d);
           filled = omega (arith, h.filled, ap (λ (n : ℕ). n * suc w) fewer, suc-mul (h.left - 1) (suc w), ap length e, length-append row rest', l);
         }
 
-    pub rowing_other : (get_or row w 0 ≡ j → ⊥) → Rowing own j w ids many rest'
-    rowing_other q = passed (ap (λ (b : Bool). same_words (take w row) own && b) (ne_eqb (get_or row w 0) j q) ∙ and-false (same_words (take w row) own))
+    pub rowing_found : is_row w own j row ≡ true → true ≡ row_among w many ids own j
+    rowing_found d = sym (step ∙ ap (λ (b : Bool). b || row_among w (h.left - 1) rest' own j) (tested ∙ d))
 
-    module _ (q : get_or row w 0 ≡ j) {t : Bool} (d : t ≡ pointwise eqb (take w row) own) where
-      is_row : (same_words (take w row) own && eqb (get_or row w 0) j) ≡ t
-      is_row =
-          ap (λ (b : Bool). same_words (take w row) own && b) (eq-eqb (get_or row w 0) j q) ∙ and-true (same_words (take w row) own) ∙ sym (d ∙ slices_same (take w row) own)
+-- what `any` answers over an iterator of rows, of a closure that tests a row
+module _ {S F : Type 0} (rest : S → List ℕ) (size : S → ℕ) (steps : S → Option (Bor (List ℕ)) → S → Type 0) (g : Mut F (Bor (List ℕ) × Unit {0}) Bool) {own : List ℕ} {j w : ℕ}
+    (one : (s t : S) (x : Bor (List ℕ)) → steps s (Some x) t → (size t ≡ size s) × (rest s ≡ x.now ++ rest t) × (length x.now ≡ size s))
+    (over : (s t : S) → steps s None t → length (rest s) < size s) {f : F}
+    (tells : (x : Bor (List ℕ)) (b : Bool) (q : F) → Called g f (x, tt) b q → length x.now ≡ suc w → (q ≡ f) × (b ≡ is_row w own j x.now)) {ids : List ℕ} {many : ℕ} where
+  passes : (xs : List (Bor (List ℕ))) (s t : S) (p q : F) → p ≡ f → size s ≡ suc w → Rowing own j w ids many (rest s) → Yields steps s xs t → FoldsTo (λ p x q. Called g p (x, tt) false q) p xs q →
+      (q ≡ f) × (size t ≡ suc w) × Rowing own j w ids many (rest t)
+  passes [] s t p q e z h y c = (sym c ∙ e, ap size (sym y) ∙ z, subst (λ (k : S). Rowing own j w ids many (rest k)) y h)
+  passes (x ∷ xs) s t p q e z h (i, st, y) (k, c, d) =
+      let (n, r, l) = one s i x st in
+      let (e', b) = tells x false k (subst (λ (v : F). Called g v (x, tt) false k) e c) (l ∙ z) in
+      passes xs i t k q e' (n ∙ z) (rowing_on h x.now (rest i) r (l ∙ z) (sym b)) y d
 
-      pub rowing_unlike : t ≡ false → Rowing own j w ids many rest'
-      rowing_unlike z = passed (is_row ∙ z)
-
-      pub rowing_found : t ≡ true → true ≡ row_among w many ids own j
-      rowing_found z = sym (step ∙ ap (λ (b : Bool). b || row_among w (h.left - 1) rest' own j) (is_row ∙ z))
+  pub any_rows : {s u : S} (r : Bool) (xs : List (Bor (List ℕ))) (o : Option (Bor (List ℕ))) (q : F) → size s ≡ suc w → Rowing own j w ids many (rest s) →
+      YieldsThen steps s xs o u → FoldsTo (λ p x q. Called g p (x, tt) false q) f xs q → MatchOption o (r ≡ false) (λ x. (r ≡ true) × ((h : F) × Called g q (x, tt) true h)) → r ≡ row_among w many ids own j
+  any_rows {s} {u} r xs None q z h (t, y, st) d m =
+      let (e, n, k) = passes xs s t f q refl z h y d in
+      m ∙ rowing_done k (omega (arith, over t u st, n))
+  any_rows {s} {u} r xs (Some x) q z h (t, y, st) d (m, (v, c)) =
+      let (e, n, k) = passes xs s t f q refl z h y d in
+      let (n', i, l) = one t u x st in
+      let b = tells x true v (subst (λ (a : F). Called g a (x, tt) true v) e c) (l ∙ n) in
+      m ∙ rowing_found k x.now (rest u) i (l ∙ n) (sym b.1)
 
 -- rows of numbers are the hypotheses of those terms
 module _ {I W : List ℕ} {m : Mark} (g : Good I W m) (w : ℕ) (ps : List ℕ) (j : ℕ) (b : Below m.terms ps) (there : j < m.terms) where

@@ -1,10 +1,10 @@
 -- What the form `induct` is given and what its parts answer: the motive in the store, a case's terms, and what a case may rest on. Assumes nothing.
 use Rattle.state.specs.Records.{fact_rows, fact_feet}
 use Rattle.std.specs.Prelude.{◌≡◌, Bool, true, false, ◌&&◌, ◌||◌, List, [], ◌∷◌, ℕ, zero, suc, ◌*◌, ◌<◌, ◌≤◌, eqb, length, get_or, take, drop, replicate, Some as some, None as nothing, Result, Ok, Err}
-use Rattle.rules.specs.Limits.{ARGUMENTS, VARIABLES, FACTS, SYMBOLS, TERMS, VARIABLEWORDS, TERMWORDS, FACTWORDS}
+use Rattle.rules.specs.Limits.{ARGUMENTS, VARIABLES, FACTS, SYMBOLS, TERMS}
 use Rattle.rules.specs.Out.{Out, ok, refuse, Act, ◌>>=◌, pure, ask}
 use Rattle.rules.specs.Find.{entry, any, all}
-use Rattle.rules.specs.Sexp.{Sexp, Sexps, cons, count, item, rest}
+use Rattle.rules.specs.Sexp.{Sexp, Sexps, cons, count, item}
 use Rattle.rules.specs.Tree.{Tree, Trees, var, app, none, more, same_tree, among, single}
 use Rattle.rules.specs.Store.{Made, keep, substitute, substitutes}
 use Rattle.rules.specs.Theory.{constructors}
@@ -12,7 +12,6 @@ use Rattle.rules.specs.State.{State, Var, is_none}
 use Rattle.rules.specs.Reference.{fact_at}
 use Rattle.rules.specs.Induct.{Motive, motive_vars, keep_vars, Hyp, hypotheses, allowed_hyp, induct_case, induct_cases}
 use Rattle.sexp.specs.Items.{Holds}
-use Rattle.sexp.specs.WalkLaws.{Walk}
 use Rattle.questions.specs.Numbers.{row_number, number_of, detail_of}
 use Rattle.questions.specs.declared.Row.{Row}
 use Rattle.questions.specs.declared.Question.{Question}
@@ -31,16 +30,12 @@ use Rattle.reading.specs.Items.{variable_in}
 use Rattle.referring.specs.declared.source.Facts.{Facts}
 use Rattle.referring.specs.declared.source.Source.{Source}
 use Rattle.referring.specs.Sources.{source_names}
+use Rattle.referring.specs.Ids.{IDS}
 use Rattle.referring.specs.Recall.{Refers}
 use Rattle.referring.specs.Substitutes.{Replaceables}
 use Rattle.induction.specs.declared.motive.Motive.{Motive as Statement}
 use Rattle.induction.specs.declared.resting.Allowed.{Allowed}
 use Rattle.induction.specs.declared.induct_cases.Case.{Case}
-use Rattle.induction.specs.declared.induct.Subject.{Subject}
-
--- cells for numbers of terms
-abbrev pub IDS : ℕ
-IDS = 40960
 
 -- scratch as it is before a form and behind it
 abbrev pub Blank : List ℕ → List ℕ → Type 0
@@ -184,9 +179,7 @@ pub record Resting (facts lists : List ℕ) (n : Sizes) (plain used : List ℕ) 
   pub good : Good I W m
   pub variable_is : M.variable ≡ x
   pub used_are : holds used ≡ motive_vars M
-  pub wide : length used ≡ VARIABLEWORDS
   pub plain_are : (t : ℕ) → t < m.terms → holds plain t ≡ plain_at M ps (hyps_in (made I W m) k many ids) (tree I W m t)
-  pub long : length plain ≡ TERMWORDS
   pub narrow : k ≤ FACTS
   pub filled : length ids ≡ many * suc k
   pub known : Below m.terms ids
@@ -209,9 +202,7 @@ pub record BeforeRest (facts lists : List ℕ) (n : Sizes) (plain used : List �
   pub variable_is : M.variable ≡ x
   pub premises_are : is_none M.premises ≡ eqb k 0
   pub used_are : holds used ≡ motive_vars M
-  pub wide : length used ≡ VARIABLEWORDS
   pub plain_are : (t : ℕ) → t < m.terms → holds plain t ≡ among ps (tree I W m t)
-  pub long : length plain ≡ TERMWORDS
   pub narrow : k ≤ FACTS
   pub filled : length ids ≡ many * suc k
   pub known : Below m.terms ids
@@ -252,7 +243,6 @@ pub record InCase (facts lists : List ℕ) (n : Sizes) (I W : List ℕ) (m : Mar
   pub recorded : Recorded (records facts footings lists) n (made I W m) S
   pub motived : Motived I W m x j premises
   pub used_are : holds used ≡ motive_vars (motive_in (made I W m) x sort j premises)
-  pub wide : length used ≡ VARIABLEWORDS
 
 abbrev pub CaseIn : Facts → Store → Statement → List ℕ → Type 0
 CaseIn f s m used = InCase (fact_rows f.records.now) f.lists.now f.n s.index.now s.words.now s.mark m.x m.sort m.judgment m.premises.now used
@@ -269,7 +259,6 @@ pub record CaseNames (goals text vars : List ℕ) (count-vars : ℕ) (sorts used
   pub holds : Holds text cells xs
   pub many : count xs ≡ length sorts
   pub few : length sorts ≤ ARGUMENTS
-  pub wide : length used ≡ VARIABLEWORDS
 
 abbrev pub NamesIn : Reader → List ℕ → List ℕ → List ℕ → Type 0
 NamesIn r sorts used cells = CaseNames r.goals.now r.text.now r.vars.now r.n.vars sorts used cells
@@ -291,7 +280,6 @@ pub record CaseItem (K : Names) (n : Sizes) (used cells : List ℕ) : Type 0 whe
   pub y : Sexp
   pub ys : Sexps
   pub spelling : Spelling K n trees S
-  pub wide : length used ≡ VARIABLEWORDS
   pub items : Holds K.text cells (cons y ys)
 
 abbrev pub ReadsCase : Reader → List ℕ → List ℕ → Type 0
@@ -315,7 +303,6 @@ pub record CaseItems (K : Names) (facts footings lists : List ℕ) (n : Sizes) (
   pub refers : Refers K facts footings lists n I W m S
   pub motived : Motived I W m x j premises
   pub used_are : holds used ≡ motive_vars (motive_in (made I W m) x sort j premises)
-  pub wide : length used ≡ VARIABLEWORDS
   pub items : Holds K.text cells xs
 
 abbrev pub ReadsCases : Source → Store → Statement → List ℕ → List ℕ → Type 0
@@ -352,7 +339,6 @@ pub record InductForm (K : Names) (facts footings lists : List ℕ) (n : Sizes) 
   pub refers : Refers K facts footings lists n I W m S
   pub variable_known : x < length S.vars
   pub earlier : (v : ℕ) → holds hyps v ≡ true → v < length S.facts
-  pub long : length hyps ≡ FACTWORDS
   pub items : Holds K.text cells (cons y (cons z zs))
 
 abbrev pub ReadsInduct : Source → Store → ℕ → List ℕ → List ℕ → Type 0
@@ -370,7 +356,7 @@ pub record SubjectItems (goals text vars : List ℕ) (count-vars : ℕ) (cells :
 abbrev pub ReadsSubject : Reader → List ℕ → Type 0
 ReadsSubject r cells = SubjectItems r.goals.now r.text.now r.vars.now r.n.vars cells
 
--- the form's variable, and the items from it on stand there; or it names none
-abbrev pub SubjectAs : List Var → List ℕ → List ℕ → Sexps → Result Subject Question → Type 0
-SubjectAs vs text cells xs (Ok s) = (variable_in vs (item xs 2) ≡ some s.x) × Walk text cells s.at (rest xs 2)
-SubjectAs vs text cells xs (Err q) = (variable_in vs (item xs 2) ≡ nothing) × (q ≡ Binding)
+-- the form's variable; or it names none
+abbrev pub SubjectAs : List Var → Sexps → Result ℕ Question → Type 0
+SubjectAs vs xs (Ok x) = variable_in vs (item xs 2) ≡ some x
+SubjectAs vs xs (Err q) = (variable_in vs (item xs 2) ≡ nothing) × (q ≡ Binding)

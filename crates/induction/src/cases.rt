@@ -15,7 +15,8 @@ use rules::{NODE, VARIABLES};
 use terms::store::Store;
 use terms::substitute::substitute;
 
-// The variables as terms, in order, then the constructor c over them.
+// The variables as terms, in order, then the constructor c over them: an array as long as the longest node, since there is no heap, and the core stands on
+// `std` alone.
 fn keep_case(store: &mut Store<'_>, c: usize, own: &[u32]) -> Result<usize, Row>
     requires { CasingIn store.old c own.now }
     ensures same_tables { SameTables store.old store.new }
@@ -37,7 +38,7 @@ impl Motive<'_> {
         requires { (self.now.x < VARIABLES) × (t < TERMS) }
         ensures { result ≡ set (replicate VARIABLES 0) self.now.x (t + 1) }
     {
-        let mut map = [0; rules::VARIABLES];
+        let mut map = [0; VARIABLES];
         map[self.x] = (t + 1) as u32;
         map
     }
@@ -134,6 +135,8 @@ impl Motive<'_> {
             HypsMadeAs store.old store.new (hypotheses (motive_of M self.now) own.now sorts.now M) (length self.now.premises.now) (length own.now) ids.new result }
         ensures memo_unchanged { memo.new ≡ memo.old }
     {
+        // `at` is answered: with `chunks_exact_mut` beside a filtered walk the variables would be counted by a second walk, and what is written through it
+        // is not known behind the loop
         let mut at = 0;
         for (v, sort) in own.iter().zip(sorts) {
             if *sort as usize != self.sort {

@@ -1,7 +1,7 @@
 // `(induct N X (HYP...) JUDGMENT (CASE...))`, HYPs or none: structural induction on the variable X. One case a constructor of its sort, in order:
 // `(INDEX VAR...)`, a fact that concludes the judgment at the constructor over the case's variables.
 ghost use Rattle.std.specs.Prelude.{◌≡◌, ◌*◌, ◌≤◌, length, take, replicate};
-ghost use Rattle.rules.specs.Limits.{TERMS, FACTS, FACTWORDS};
+ghost use Rattle.rules.specs.Limits.{TERMS, FACTS};
 ghost use Rattle.rules.specs.Find.{rising};
 ghost use Rattle.rules.specs.State.{Fact as StateFact};
 ghost use Rattle.rules.specs.Induct.{motive_vars, induct_on, induct, induct_with};
@@ -18,7 +18,6 @@ use crate::induct_cases::induct_cases;
 use crate::motive::Motive;
 use cells::clear;
 use facts::{Fact, judgment_of};
-use kernel::readers::constructors;
 use questions::Question;
 use reading::reader::Reader;
 use referring::scope::visit_all;
@@ -26,37 +25,30 @@ use referring::source::Source;
 use referring::support::{Derived, Support};
 use rules::{ARGUMENTS, FACTS, FACTWORDS, TERMWORDS, VARIABLEWORDS};
 use sexp::items;
-use sexp::items::Item;
 use state::vars::var_sort;
 use terms::sets::{has, write_out};
 use terms::store::{Store, Terms};
 use terms::variables::visit;
 
-// Cells for the numbers of the induction hypotheses' terms: a case has at most ARGUMENTS of them, of at most FACTS premises and a judgment each.
+// Cells for numbers of terms, as many as are lent for a form (docs/TABLES.md): a step's references and an inversion's premises stand in them too. A case needs
+// 16,400 of them: at most ARGUMENTS induction hypotheses, of at most FACTS premises and a judgment each. More than any form needs, and no less, since the
+// number stands in contracts of public functions, which may not ask for another.
 pub const IDS: usize = 40960;
 
-// The variable of a form, and where it stands.
-#[derive(Clone, Copy)]
-struct Subject {
-    x: usize,
-    at: usize,
-}
-
-// That of the form whose items the cells hold.
-fn read_subject(reader: &Reader<'_>, cells: &[u32]) -> Result<Subject, Question>
+// The variable of the form whose items the cells hold.
+fn read_subject(reader: &Reader<'_>, cells: &[u32]) -> Result<usize, Question>
     requires { ReadsSubject reader.now cells.now }
-    ensures { (g : ReadsSubject reader.now cells.now) → SubjectAs g.S.vars reader.now.text.now cells.now g.xs result }
+    ensures { (g : ReadsSubject reader.now cells.now) → SubjectAs g.S.vars g.xs result }
 {
-    let at = items::place(cells, 2);
-    let Some(x) = reader.variable(&cells[at..]) else {
-        return Err(Question::Binding);
-    };
-    Ok(Subject { x, at })
+    reader
+        .variable(items::from(cells, 2))
+        .ok_or(Question::Binding)
 }
 
 // The judgments of the facts, by rising number, come into the first cells of `out`, as there is no heap for a list; what is answered is how many they are.
-fn judgments_of(facts: &[Fact], hyps: &[u64], out: &mut [u32]) -> usize
-    requires { (length (fact_rows facts.now) ≡ 6 * FACTS) × (length hyps.now ≡ FACTWORDS) × (length out.old ≡ FACTS) }
+// The numbers are written out and replaced where they stand: with an iterator over the set, the cells that are filled would be counted by hand.
+fn judgments_of(facts: &[Fact], hyps: &[u64; FACTWORDS], out: &mut [u32; FACTS]) -> usize
+    requires { length (fact_rows facts.now) ≡ 6 * FACTS }
     ensures { (result ≤ FACTS) × (take result out.new ≡ judgment_cells (fact_rows facts.now) (rising FACTS (holds hyps.now))) }
 {
     let count = write_out(hyps, out);
@@ -81,7 +73,7 @@ impl Motive<'_> {
 }
 
 // The cases of the motive: whether there are as many as constructors, and whether its variable occurs in it; then each case. `memo` is scratch: zero
-// before and after; so is `ids`, of whatever content.
+// before and after; `ids` is scratch of whatever content.
 fn motive_cases(
     source: &Source<'_>,
     store: &mut Store<'_>,
@@ -97,8 +89,8 @@ fn motive_cases(
         PassedAs store.old store.new (on_motive g.S (motive_of (made_of store.old) motive.now) g.xs (made_of store.old)) result }
     ensures memo_unchanged { memo.new ≡ memo.old }
 {
-    let reader = &source.reader;
-    if items::count(cells) != constructors(reader.symbols, reader.n.symbols, motive.sort) {
+    let known = source.reader.symbol_table();
+    if items::count(cells) != known.constructors(motive.sort) {
         return Err(Question::Cases);
     }
     let used = motive.vars(&store.terms());
@@ -150,10 +142,7 @@ fn induct_on(
 {
     let reader = &source.reader;
     let judgment = reader.judgment(store, cells)?;
-    let next = items::after(cells, 0);
-    let Item::List(a, b) = items::item_at(cells, next) else {
-        return Err(Question::Cases);
-    };
+    let cases = items::list(cells, 1).ok_or(Question::Cases)?;
     let mut premises = [0u32; FACTS];
     let width = judgments_of(source.records, &hyps, &mut premises);
     let motive = Motive {
@@ -162,7 +151,7 @@ fn induct_on(
         judgment,
         premises: &premises[..width],
     };
-    on_motive(source, store, &cells[a..b], &motive, memo, ids)?;
+    on_motive(source, store, cases, &motive, memo, ids)?;
     Ok(Derived {
         judgment,
         instances: 0,
@@ -189,10 +178,9 @@ pub fn induct(
         DerivedAs StateFact store.old store.new g.S (induct g.S g.xs (made_of store.old)) alone result }
     ensures memo_unchanged { (memo.new ≡ memo.old) × (ids.new ≡ ids.old) }
 {
-    let Subject { x, at } = read_subject(&source.reader, cells)?;
-    let next = items::after(cells, at);
+    let x = read_subject(&source.reader, cells)?;
     let hyps = [0; FACTWORDS];
-    induct_on(source, store, &cells[next..], x, hyps, memo, ids)
+    induct_on(source, store, items::from(cells, 3), x, hyps, memo, ids)
 }
 
 // The form with hypotheses.
@@ -211,10 +199,8 @@ pub fn induct_with(
     ensures memo_unchanged { (memo.new ≡ memo.old) × (ids.new ≡ ids.old) }
 {
     let reader = &source.reader;
-    let Subject { x, at } = read_subject(reader, cells)?;
-    let third = items::after(cells, at);
+    let x = read_subject(reader, cells)?;
     let mut hyps = [0; FACTWORDS];
-    reader.plain_hyps(source.records, &cells[third..], &mut hyps)?;
-    let next = items::after(cells, third);
-    induct_on(source, store, &cells[next..], x, hyps, memo, ids)
+    reader.plain_hyps(source.records, items::from(cells, 3), &mut hyps)?;
+    induct_on(source, store, items::from(cells, 4), x, hyps, memo, ids)
 }

@@ -10,7 +10,6 @@ ghost use Rattle.reading.specs.Answers.{PassedAs};
 
 use crate::motive::{Motive, Rows};
 use crate::resting::Allowed;
-use kernel::readers::{arity, next_constructor};
 use questions::Question;
 use reading::names::index;
 use reading::reader::Reader;
@@ -18,13 +17,12 @@ use referring::references::insert_all;
 use referring::source::{Facts, Source};
 use rules::{ARGUMENTS, TERMWORDS, VARIABLEWORDS};
 use sexp::items;
-use sexp::items::Item;
 use state::vars::var_sort;
 use terms::sets::{has, insert};
 use terms::store::Store;
 
-// A case as it is spelled: its fact, its constructor, and the variables over which that stands, in as many cells as there are sorts: there is no heap
-// for a list.
+// A case as it is spelled: its fact, its constructor, and the variables over which that stands, of as many cells as there are sorts: no heap for a list, and
+// the core stands on `std` alone.
 #[derive(Clone, Copy)]
 struct Case<'a> {
     fact: usize,
@@ -37,7 +35,7 @@ struct Case<'a> {
 fn case_vars(
     reader: &Reader<'_>,
     sorts: &[u32],
-    used: &[u64],
+    used: &[u64; VARIABLEWORDS],
     cells: &[u32],
 ) -> Result<[u32; ARGUMENTS], Question>
     requires { NamesIn reader.now sorts.now used.now cells.now }
@@ -47,16 +45,8 @@ fn case_vars(
     let mut own = [0; ARGUMENTS];
     let mut seen = [0u64; VARIABLEWORDS];
     for (k, item) in items::all(cells).enumerate() {
-        let Some(v) = reader.variable(item) else {
-            return Err(Question::CaseVariables);
-        };
-        if var_sort(reader.vars, v) != sorts[k] as usize {
-            return Err(Question::CaseVariables);
-        }
-        if has(used, v) {
-            return Err(Question::CaseVariables);
-        }
-        if has(&seen, v) {
+        let v = reader.variable(item).ok_or(Question::CaseVariables)?;
+        if var_sort(reader.vars, v) != sorts[k] as usize || has(used, v) || has(&seen, v) {
             return Err(Question::CaseVariables);
         }
         insert(&mut seen, v);
@@ -68,32 +58,25 @@ fn case_vars(
 // The case of constructor c that the first item spells; the set holds the motive's variables.
 fn read_case<'a>(
     reader: &Reader<'a>,
-    used: &[u64],
+    used: &[u64; VARIABLEWORDS],
     c: usize,
     cells: &[u32],
 ) -> Result<Case<'a>, Question>
     requires { ReadsCase reader.now used.now cells.now × (c < reader.now.n.symbols) }
     ensures { (g : ReadsCase reader.now used.now cells.now) → (M : Proved) → holds used.now ≡ motive_vars M → CaseAs g.S M g.y c result }
 {
-    let Item::List(a, b) = items::item_at(cells, 0) else {
-        return Err(Question::Cases);
-    };
-    let inner = &cells[a..b];
+    let inner = items::list(cells, 0).ok_or(Question::Cases)?;
     if inner.is_empty() {
         return Err(Question::Cases);
     }
-    let Some(fact) = index(reader.text, inner) else {
-        return Err(Question::Cases);
-    };
-    let many = arity(reader.symbols, c);
+    let fact = index(reader.text, inner).ok_or(Question::Cases)?;
+    let known = reader.symbol_table();
+    let many = known.arity(c);
     if items::count(inner) != many + 1 {
         return Err(Question::Cases);
     }
-    let next = items::after(inner, 0);
-    let from = ARGUMENTS * c;
-    let end = from + many;
-    let sorts = &reader.inputs[from..end];
-    let own = case_vars(reader, sorts, used, &inner[next..])?;
+    let sorts = known.inputs(c, many);
+    let own = case_vars(reader, sorts, used, items::from(inner, 1))?;
     Ok(Case {
         fact,
         constructor: c,
@@ -103,12 +86,12 @@ fn read_case<'a>(
 }
 
 // A case behind its variables: the motive at the constructor, the induction hypotheses, the questions of its fact. `memo` is scratch: zero before and
-// after; so is `ids`, of whatever content: who lends it clears it.
+// after; `ids` is scratch of whatever content: who lends it clears it.
 fn case_terms(
     facts: &Facts<'_>,
     store: &mut Store<'_>,
     motive: &Motive<'_>,
-    used: &[u64],
+    used: &[u64; VARIABLEWORDS],
     case: &Case<'_>,
     memo: &mut [u32],
     ids: &mut [u32],
@@ -150,7 +133,7 @@ pub fn induct_cases(
     store: &mut Store<'_>,
     cells: &[u32],
     motive: &Motive<'_>,
-    used: &[u64],
+    used: &[u64; VARIABLEWORDS],
     memo: &mut [u32],
     ids: &mut [u32],
 ) -> Result<(), Question>
@@ -162,10 +145,12 @@ pub fn induct_cases(
     ensures memo_unchanged { memo.new ≡ memo.old }
 {
     let reader = &source.reader;
-    // where the next constructor of the sort is looked for, which is no count
+    let known = reader.symbol_table();
+    // where the next constructor of the sort is looked for, which is no count; in a zip with the constructors of the sort, each would have to be tied to the
+    // question that `next_constructor` answers, and what is left of them told by an invariant
     let mut from = 0;
     for item in items::all(cells) {
-        let Some(c) = next_constructor(reader.symbols, reader.n.symbols, motive.sort, from) else {
+        let Some(c) = known.next_constructor(motive.sort, from) else {
             return Ok(());
         };
         let case = read_case(reader, used, c, item)?;

@@ -1,6 +1,6 @@
 // What a case of `induct` may rest on: plain hypotheses by a set of terms, rule hypotheses by the numbers of the induction hypotheses.
 ghost use Rattle.std.specs.Prelude.{◌≡◌, ◌&&◌, ℕ, not, suc, ◌*◌, ◌<◌, ◌≤◌, eqb, length};
-ghost use Rattle.rules.specs.Limits.{FACTS};
+ghost use Rattle.rules.specs.Limits.{FACTS, VARIABLES};
 ghost use Rattle.rules.specs.Find.{all, entry};
 ghost use Rattle.rules.specs.Induct.{allowed_rule, allowed_hyp};
 ghost use Rattle.terms.specs.Table.{Below, made, tree};
@@ -11,6 +11,7 @@ ghost use Rattle.induction.specs.Inducing.{hyps_in, row_among, RestingIn, case_f
 use crate::motive::Rows;
 use questions::Question;
 use referring::source::Facts;
+use rules::{TERMWORDS, VARIABLEWORDS};
 use state::recorded::{is_assumed, is_plain, judgment};
 use terms::sets::has;
 
@@ -18,8 +19,8 @@ use terms::sets::has;
 // and none of them x.
 #[derive(Clone, Copy)]
 pub struct Allowed<'a> {
-    pub plain: &'a [u64],
-    pub used: &'a [u64],
+    pub plain: &'a [u64; TERMWORDS],
+    pub used: &'a [u64; VARIABLEWORDS],
     pub x: usize,
     pub rows: Rows<'a>,
 }
@@ -30,28 +31,21 @@ impl Rows<'_> {
         requires { self.now.width ≤ FACTS }
         ensures { (many : ℕ) → length self.now.cells.now ≡ many * suc self.now.width → result ≡ row_among self.now.width many self.now.cells.now own.now judgment }
     {
-        for row in self.cells.chunks_exact(self.width + 1) {
-            if row[self.width] as usize == judgment && &row[..self.width] == own {
-                return true;
-            }
-        }
-        false
+        self.cells.chunks_exact(self.width + 1).any(|row| row[self.width] as usize == judgment
+            && &row[..self.width] == own)
     }
 }
 
 impl Allowed<'_> {
     // Whether these variables are all in the set, and none is x.
     fn generalises(&self, own: &[u32]) -> bool
-        requires { Below (64 * length self.now.used.now) own.now }
+        requires { Below VARIABLES own.now }
         ensures { result ≡ all (λ g. holds self.now.used.now g && not (eqb g self.now.x)) own.now }
     {
-        for v in own {
-            let v = *v as usize;
-            if !has(self.used, v) || v == self.x {
-                return false;
-            }
-        }
-        true
+        // A reference to an array that stands in a field is handed on as a slice from a variable alone: here, and in `hyp`.
+        let used = self.used;
+        own.iter()
+            .all(|v| has(used, *v as usize) && *v as usize != self.x)
     }
 
     // Whether the case may rest on hypothesis h as a rule.
@@ -76,7 +70,8 @@ impl Allowed<'_> {
             result ≡ allowed_hyp g.M g.ps (hyps_in (made g.I g.W g.m) self.now.rows.width g.many self.now.rows.cells.now) (entry g.S.facts h) }
     {
         if is_plain(facts.records, h) {
-            return has(self.plain, judgment(facts.records, h));
+            let plain = self.plain;
+            return has(plain, judgment(facts.records, h));
         }
         self.rule(facts, h)
     }
@@ -87,12 +82,8 @@ impl Allowed<'_> {
         ensures { (g : RestingIn facts.now self.now) →
             result ≡ all (λ h. allowed_hyp g.M g.ps (hyps_in (made g.I g.W g.m) self.now.rows.width g.many self.now.rows.cells.now) (entry g.S.facts h)) (fact_of g.S i).hyps }
     {
-        for h in facts.hyps(i) {
-            if !self.hyp(facts, *h as usize) {
-                return false;
-            }
-        }
-        true
+        let hyps = facts.hyps(i);
+        hyps.iter().all(|h| self.hyp(facts, *h as usize))
     }
 
     // Whether fact i is there, concludes t, and rests on what it may.

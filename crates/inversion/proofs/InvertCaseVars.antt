@@ -59,11 +59,11 @@ module _ {goals text vars rulevars : List ℕ} {count : ℕ} {cells : List ℕ} 
   case_never {q = q} {d} f = no_answer g.c q d [] (sym (item_reads g.S g.x g.c g.case []) ∙ f case_given [])
 
   module _ {one : CaseRead}
-      (f : (w : VarsItem goals text vars count cells) → CaseIs w.S text w.x one.own one.start one.fact one.variables) where
+      (f : (w : VarsItem goals text vars count cells) → CaseIs w.S text w.x one.own one.name one.fact one.variables) where
     abbrev out : List ℕ
     out = one.own
 
-    read : CaseIs g.S text g.x one.own one.start one.fact one.variables
+    read : CaseIs g.S text g.x one.own one.name one.fact one.variables
     read = f case_given
 
     same_case : read.c ≡ g.c

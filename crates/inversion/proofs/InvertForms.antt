@@ -2,7 +2,7 @@
 use mathlib.Core.Path.{◌≡◌, refl, sym, ap, ◌∙◌, subst}
 use mathlib.Core.Bool.{Bool, true, false, ◌||◌, false≢true}
 use mathlib.Core.List.{List, [], ◌∷◌}
-use Prim.Native.Nat.{ℕ, ◌+◌, ◌-◌, ◌*◌, ◌<◌, ◌≤◌}
+use Prim.Native.Nat.{ℕ, ◌+◌, ◌*◌, ◌<◌, ◌≤◌}
 use native.Mathlib.Omega.{arith}
 use lib.Dec.{eqb}
 use lib.ListN.{length, take, drop, replicate}
@@ -30,7 +30,6 @@ use Rattle.rules.proofs.Laws.BelowRead.{judgment_below}
 use Rattle.rules.specs.Laws.Ready.{Ready}
 use Rattle.sexp.specs.Encode.{encodes}
 use Rattle.sexp.specs.Items.{Holds, place}
-use Rattle.sexp.specs.NthItem.{place_high, rest_holds}
 use Rattle.terms.specs.declared.store.Mark.{Mark}
 use Rattle.terms.specs.Table.{made, tree}
 use Rattle.terms.specs.Sets.{holds, plus}
@@ -45,6 +44,7 @@ use Rattle.state.specs.Members.{rising_empty, rising_under, rising_few}
 use Rattle.reading.specs.Given.{ReadsItem}
 use Rattle.reading.specs.Answers.{TermRead}
 use Rattle.referring.specs.Recall.{fact_of}
+use Rattle.referring.specs.Laws.Behind.{from_holds}
 use Rattle.referring.specs.Laws.Refers.{refers_on, fact_asks}
 use Rattle.referring.specs.Laws.Sounds.{grown_grows}
 -- beside `Below` of trees
@@ -177,15 +177,12 @@ module _ {theory goals text symbols ins vars defs rules rulevars patterns facts 
 
     -- The judgment -----------------------------------------------------------------------------------------------------------------------
 
-    module _ {fourth : ℕ} (d : (ys : Sexps) → cells ≡ encodes ys → fourth ≡ place ys 4) where
-      pub form_high : fourth ≤ length cells
-      form_high = place_high g.holds_items 4 d
-
-      pub form_item : Holds text (take (length cells - fourth) (drop fourth cells)) (cons (item g.xs 4) (rest g.xs 5))
-      form_item = subst (Holds text (take (length cells - fourth) (drop fourth cells))) (rest_item g.xs 4 (omega (arith, g.many))) (rest_holds g.holds_items 4 d)
+    module _ {fourth : List ℕ} (d : (ys : Sexps) → cells ≡ encodes ys → fourth ≡ drop (place ys 4) cells) where
+      pub form_item : Holds text fourth (cons (item g.xs 4) (rest g.xs 5))
+      form_item = subst (Holds text fourth) (rest_item g.xs 4 (omega (arith, g.many))) (from_holds g.holds_items 4 d)
 
       -- what `judgment` asks
-      abbrev pub form_judgment : ReadsItem (names theory goals text symbols ins vars defs) n I W m (take (length cells - fourth) (drop fourth cells))
+      abbrev pub form_judgment : ReadsItem (names theory goals text symbols ins vars defs) n I W m fourth
       form_judgment = record { S = S; x = item g.xs 4; ys = rest g.xs 5; reads = g.refers.reads; holds = form_item }
 
     module _ {J X : List ℕ} {now : Mark} where

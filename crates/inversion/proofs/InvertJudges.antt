@@ -20,6 +20,7 @@ use Rattle.rules.specs.Laws.Theory.{all_at}
 use Rattle.terms.specs.declared.store.Mark.{Mark}
 use Rattle.terms.specs.Table.{made, tree, Grown}
 use Rattle.terms.specs.Sets.{holds}
+use Rattle.terms.specs.Patterns.{cells_of}
 use Rattle.terms.specs.Subst.{replacement}
 use Rattle.terms.specs.Theta.{bindings}
 use Rattle.terms.specs.On.{Went, Stopped, On, on_start, on_is, on_ok, on_no, on_went, on_stopped, on_done, on_refused}
@@ -221,12 +222,12 @@ module _ {symbols rules patterns facts lists : List ℕ} {n : Sizes} {I W : List
   pub having_full : (i : ℕ) {J X : List ℕ} {q d : ℕ} {new : Mark} → Stopped I W J X m (met g.meeting.T) q d new → Stopped I W J X m (case_of_lem g.recalls.S.theory i) q d new
   having_full i w = on_no _ (begun i) w
 
-  module _ (J X theta : List ℕ) (new : Mark) {o : Option (List ℕ)} (w : MetBy I W J X m new (met g.meeting.T) list theta (Ok o)) where
-    pub having_met : {bound : List ℕ} → o ≡ some bound → Met I W J X m (met g.meeting.T) list bound theta new
-    having_met e = subst (λ (z : Option (List ℕ)). MetBy I W J X m new (met g.meeting.T) list theta (Ok z)) e w
+  module _ (J X theta : List ℕ) (new : Mark) {o : Option (List (Option ℕ))} (w : MetBy I W J X m new (met g.meeting.T) list theta (Ok o)) where
+    pub having_met : {bound : List (Option ℕ)} → o ≡ some bound → Met I W J X m (met g.meeting.T) list (cells_of bound) theta new
+    having_met e = subst (λ (z : Option (List (Option ℕ))). MetBy I W J X m new (met g.meeting.T) list theta (Ok z)) e w
 
     pub having_unmet : (i : ℕ) → o ≡ nothing → Stopped I W J X m (case_of_lem g.recalls.S.theory i) 46 0 new
-    having_unmet i e = having_apart i (subst (λ (z : Option (List ℕ)). MetBy I W J X m new (met g.meeting.T) list theta (Ok z)) e w).0
+    having_unmet i e = having_apart i (subst (λ (z : Option (List (Option ℕ))). MetBy I W J X m new (met g.meeting.T) list theta (Ok z)) e w).0
 
   module _ {J X cells theta : List ℕ} {new : Mark} (w : Met I W J X m (met g.meeting.T) list cells theta new) where
     -- what `judge` asks

@@ -17,9 +17,9 @@ use Rattle.rules.specs.Invert.{renaming}
 use Rattle.rules.specs.Laws.Out.{then_then}
 use Rattle.terms.specs.declared.store.Mark.{Mark}
 use Rattle.terms.specs.Table.{made, Good, Stored, Refused}
-use Rattle.terms.specs.Patterns.{tree_in, bound_of, Cells}
+use Rattle.terms.specs.Patterns.{cells_of, tree_in, bound_of, Cells}
 use Rattle.terms.specs.On.{Stopped, On, on_start, on_is, on_ok, on_no, on_done, stored_went, refused_stopped}
-use Rattle.terms.specs.Laws.Bound.{bound_some, bound_grown, cells_grown, cells_set}
+use Rattle.terms.specs.Laws.Bound.{cells_of_set, bound_some, bound_grown, cells_grown, cells_set}
 use Rattle.terms.specs.Laws.Growth.{made_length}
 use Rattle.terms.specs.Laws.Numbers.{stored_is}
 use Rattle.reading.specs.Laws.Walks.{then_same}
@@ -92,7 +92,7 @@ module _ {I W : List ℕ} {old : Mark} {list J X bound : List ℕ} {now : Mark} 
               ∙ ap (λ (b : ℕ → Option Tree). b i) (bound_grown stored.grown h.cells) ∙ h.binds i (omega (arith, q, p))
         ]
 
-        pub vars_again : VarsKeeping I W old list Y Z (set bound k (t + 1)) new (k + 1)
+        vars_again : VarsKeeping I W old list Y Z (set bound k (t + 1)) new (k + 1)
         vars_again =
             let n = made_length Y Z new in
             record {
@@ -104,3 +104,10 @@ module _ {I W : List ℕ} {old : Mark} {list J X bound : List ℕ} {now : Mark} 
                   (cells_set (made Y Z new) bound k t (subst (λ (j : ℕ). Cells j bound) (sym n) later) (omega (arith, few, l)) (omega (arith, stored.there, n)));
               near = omega arith;
             }
+
+-- the same of what is bound
+module _ {I W : List ℕ} {old : Mark} {list J X : List ℕ} (bound : List (Option ℕ)) {now : Mark} {k : ℕ} (h : VarsKeeping I W old list J X (cells_of bound) now k)
+    (few : length list ≤ RULEVARS) (l : k < length list) {Y Z : List ℕ} {new : Mark} {t : ℕ}
+    (stored : Stored J X Y Z now (var (get_or list k 0)) (keep (var (get_or list k 0)) (made J X now)) t new) where
+  pub vars_bound : VarsKeeping I W old list Y Z (cells_of (set bound k (some t))) new (k + 1)
+  vars_bound = subst (λ (cells : List ℕ). VarsKeeping I W old list Y Z cells new (k + 1)) (sym (cells_of_set bound k t)) (vars_again h few l stored)

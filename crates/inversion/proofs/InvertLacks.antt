@@ -99,14 +99,14 @@ module _ {symbols rules rulevars patterns : List ℕ} {n : Sizes} {I W : List �
       pub lack_stopped : {J X : List ℕ} {q d : ℕ} {new : Mark} → Stopped I W J X m met q d new → Stopped I W J X m K q d new
       lack_stopped x = on_no _ on_made x
 
-      module _ (J X theta : List ℕ) (new : Mark) {o : Option (List ℕ)} (w : MetBy I W J X m new met (take need list) theta (Ok o)) where
-        pub lack_found : {bound : List ℕ} → o ≡ some bound → Stopped I W J X m K 47 0 new
-        lack_found e = on_refused (on_ok _ on_made (subst (λ (z : Option (List ℕ)). MetBy I W J X m new met (take need list) theta (Ok z)) e w).went)
+      module _ (J X theta : List ℕ) (new : Mark) {o : Option (List (Option ℕ))} (w : MetBy I W J X m new met (take need list) theta (Ok o)) where
+        pub lack_found : {bound : List (Option ℕ)} → o ≡ some bound → Stopped I W J X m K 47 0 new
+        lack_found e = on_refused (on_ok _ on_made (subst (λ (z : Option (List (Option ℕ))). MetBy I W J X m new met (take need list) theta (Ok z)) e w).went)
 
         pub lack_apart : o ≡ nothing → Lacked I W J X m g.vs K sorts' count k new
         lack_apart e =
             record {
-              went = on_done (on_ok _ on_made (subst (λ (z : Option (List ℕ)). MetBy I W J X m new met (take need list) theta (Ok z)) e w).0);
+              went = on_done (on_ok _ on_made (subst (λ (z : Option (List (Option ℕ))). MetBy I W J X m new met (take need list) theta (Ok z)) e w).0);
               more = omega (arith, are.many);
               few = are.few;
               long = are.long;

@@ -23,12 +23,12 @@ use Rattle.sexp.specs.Never.{never}
 use Rattle.terms.specs.declared.store.Mark.{Mark}
 use Rattle.terms.specs.Table.{made, tree, Good, Grown, Refused}
 use Rattle.terms.specs.Theta.{Zeros}
-use Rattle.terms.specs.Patterns.{Stands, Buildable, Builds, Stops, bound_of, Cells}
+use Rattle.terms.specs.Patterns.{Stands, Buildable, Builds, Stops, bound_of}
 use Rattle.unification.specs.declared.unify.Scratch.{Scratch as Tables}
-use Rattle.unification.specs.Unify.{Unifiable, Scratch, UnifiedAs}
+use Rattle.unification.specs.Unify.{Unifiable, Scratch, ScratchKept, UnifiedAs}
 use Rattle.terms.specs.On.{Went, Stopped, On, on_start, on_is, on_ok, on_no, on_went, on_stopped, refused_stopped}
 use Rattle.unification.specs.Laws.Answers.{solved_went, unsolved_went}
-use Rattle.terms.specs.Laws.Bound.{build_is, bound_grown, cells_grown, cells_zeros}
+use Rattle.terms.specs.Laws.Bound.{build_is, bound_grown, cells_grown}
 use Rattle.terms.specs.Laws.Growth.{grown_tree, grown_there, grown_trans}
 use Rattle.terms.specs.Laws.Numbers.{made_closed}
 use Rattle.terms.specs.Laws.Zeros.{zeros_long}
@@ -39,7 +39,7 @@ use Rattle.state.specs.declared.sizes.Sizes.{Sizes}
 -- beside `Below` of trees
 use Rattle.terms.specs.Table.{Below as There}
 use Rattle.inversion.specs.InvertRules.{Meeting, Empty, meets, Met, VarsKept}
-use Rattle.inversion.specs.Inverting.{EmptyScratch, ScratchKept}
+use Rattle.inversion.specs.Inverting.{EmptyScratch}
 
 -- What is made under a substitution --------------------------------------------------------------------------------------------------------------
 
@@ -99,8 +99,8 @@ module _ {symbols rules patterns : List ℕ} {n : Sizes} {I W : List ℕ} {m : M
   pub meet_short : length list ≤ RULEVARS
   meet_short = omega (arith, g.many, formed.few)
 
-  pub meet_keeps : Good I W m × There VARIABLES list × (length list ≤ RULEVARS) × Cells m.terms (replicate RULEVARS 0)
-  meet_keeps = (g.good, λ i l. omega (arith, g.names i l, g.few), meet_short, cells_zeros m.terms)
+  pub meet_keeps : Good I W m × There VARIABLES list × (length list ≤ RULEVARS)
+  meet_keeps = (g.good, λ i l. omega (arith, g.names i l, g.few), meet_short)
 
   pub meet_unkept : {J X : List ℕ} {q d : ℕ} {mid : Mark} → Stopped I W J X m (keep_vars list (made I W m)) q d mid → Stopped I W J X m K q d mid
   meet_unkept s = on_no _ (on_start g.good) s

@@ -3,9 +3,9 @@ use Rattle.std.specs.Prelude.{Some as some, None as nothing, Option}
 use mathlib.Core.Path.{◌≡◌, refl, sym, ap, ◌∙◌, subst}
 use mathlib.Core.Bool.{Bool, true, false, not}
 use mathlib.Core.List.{List}
-use Prim.Native.Nat.{ℕ, suc, ◌-◌, ◌*◌, ◌<◌, ◌≤◌}
+use Prim.Native.Nat.{ℕ, suc, ◌*◌, ◌<◌}
 use native.Mathlib.Omega.{arith}
-use lib.ListN.{length, take, drop}
+use lib.ListN.{length, drop}
 use borrow.Author.Tests.{not-true, not-false}
 use Rattle.rules.specs.Limits.{FACTS}
 use Rattle.rules.specs.Out.{Out, ok, refuse, then, ask, found}
@@ -20,7 +20,6 @@ use Rattle.rules.specs.Laws.Theory.{All}
 use Rattle.rules.specs.Laws.Rising.{rising_all_of, has_all}
 use Rattle.sexp.specs.Encode.{encodes}
 use Rattle.sexp.specs.Items.{Holds, place}
-use Rattle.sexp.specs.NthItem.{place_high, rest_holds}
 use Rattle.questions.specs.declared.Question.{Question}
 use Rattle.questions.specs.declared.Question.TheVariants.{Earlier}
 use Rattle.questions.specs.Numbers.{number_of, detail_of}
@@ -34,6 +33,7 @@ use Rattle.reading.specs.Given.{FactsItem}
 use Rattle.reading.specs.Answers.{HypsRead}
 use Rattle.referring.specs.Recall.{fact_of}
 use Rattle.reading.specs.Earlier.{Missing}
+use Rattle.referring.specs.Laws.Behind.{from_holds}
 use Rattle.referring.specs.Laws.Refers.{fact_found, fact_none, fact_asks}
 use Rattle.inversion.specs.Inversions.{NamingForm, hypothesis_of, HypothesisRead}
 use Rattle.reading.specs.Laws.Lists.{listed_rises}
@@ -47,12 +47,9 @@ module _ {text facts : List ℕ} {n : Sizes} {cells : List ℕ} (g : NamingForm 
   abbrev whole : Made → Out Made (ℕ × (Fact × List ℕ))
   whole M = hypothesis_of S g.xs M
 
-  module _ (k : ℕ) (l : k < 4) {at : ℕ} (a : (ys : Sexps) → cells ≡ encodes ys → at ≡ place ys k) where
-    pub naming_high : at ≤ length cells
-    naming_high = place_high g.holds_items k a
-
-    pub naming_item : Holds text (take (length cells - at) (drop at cells)) (cons (item g.xs k) (rest g.xs (suc k)))
-    naming_item = subst (Holds text (take (length cells - at) (drop at cells))) (rest_item g.xs k (omega (arith, g.many, l))) (rest_holds g.holds_items k a)
+  module _ (k : ℕ) (l : k < 4) {part : List ℕ} (a : (ys : Sexps) → cells ≡ encodes ys → part ≡ drop (place ys k) cells) where
+    pub naming_item : Holds text part (cons (item g.xs k) (rest g.xs (suc k)))
+    naming_item = subst (Holds text part) (rest_item g.xs k (omega (arith, g.many, l))) (from_holds g.holds_items k a)
 
   -- what is left behind the fact
   abbrev after_fact : ℕ → Fact → Made → Out Made (ℕ × (Fact × List ℕ))
@@ -61,13 +58,13 @@ module _ {text facts : List ℕ} {n : Sizes} {cells : List ℕ} (g : NamingForm 
   started : (M : Made) → whole M ≡ then (found 34 (index_in (item g.xs 2)) M) (λ i A. then (fact_at S i A) (λ k B. after_fact i k B))
   started M = ap (λ (o : Out Made ℕ). then o (λ i A. then (fact_at S i A) (λ k B. after_fact i k B))) (index_found 34 (item g.xs 2) M)
 
-  module _ {at : ℕ} (a : (ys : Sexps) → cells ≡ encodes ys → at ≡ place ys 2) where
+  module _ {second : List ℕ} (a : (ys : Sexps) → cells ≡ encodes ys → second ≡ drop (place ys 2) cells) where
     -- what `index` asks
-    pub naming_index : FirstItem text (take (length cells - at) (drop at cells))
+    pub naming_index : FirstItem text second
     naming_index = record { x = item g.xs 2; ys = rest g.xs 3; holds = naming_item 2 (omega arith) a }
 
     abbrev Named : (Option ℕ → Type 0) → Type 0
-    Named P = (x : Sexp) (ys : Sexps) → Holds text (take (length cells - at) (drop at cells)) (cons x ys) → P (index_in x)
+    Named P = (x : Sexp) (ys : Sexps) → Holds text second (cons x ys) → P (index_in x)
 
     at_third : (P : Option ℕ → Type 0) → Named P → P (index_in (item g.xs 2))
     at_third P b = b (item g.xs 2) (rest g.xs 3) (naming_item 2 (omega arith) a)
@@ -106,9 +103,9 @@ module _ {text facts : List ℕ} {n : Sizes} {cells : List ℕ} (g : NamingForm 
           plain : (M : Made) → whole M ≡ then (hyp_list (λ f. f.assumed) S (item g.xs 3) M) (λ hs B. ok (i, (fact_of S i, hs)) B)
           plain M = known M ∙ then_ok _ tt M _ (ap (λ (c : Bool). ask 40 c M) (sym row.plain ∙ sym pl ∙ not-false p z))
 
-          module _ {third : ℕ} (c : (ys : Sexps) → cells ≡ encodes ys → third ≡ place ys 3) where
+          module _ {third : List ℕ} (c : (ys : Sexps) → cells ≡ encodes ys → third ≡ drop (place ys 3) cells) where
             -- what `any_hyps` asks
-            abbrev pub naming_hyps : FactsItem text facts n (take (length cells - third) (drop third cells))
+            abbrev pub naming_hyps : FactsItem text facts n third
             naming_hyps = record {
               S = S;
               made_trees = g.made_trees;
@@ -121,11 +118,11 @@ module _ {text facts : List ℕ} {n : Sizes} {cells : List ℕ} (g : NamingForm 
             }
 
             pub naming_stop : {q d : ℕ} →
-                ((w : FactsItem text facts n (take (length cells - third) (drop third cells))) → (M : Made) → hyp_list (λ f. f.assumed) w.S w.x M ≡ refuse q d M) →
+                ((w : FactsItem text facts n third) → (M : Made) → hyp_list (λ f. f.assumed) w.S w.x M ≡ refuse q d M) →
                 (M : Made) → whole M ≡ refuse q d M
             naming_stop {q} {d} f M = plain M ∙ then_refuse _ q d M _ (f naming_hyps M)
 
-            module _ {hyps : List ℕ} (f : (w : FactsItem text facts n (take (length cells - third) (drop third cells))) → HypsRead (λ f. f.assumed) w.S w.x hyps) where
+            module _ {hyps : List ℕ} (f : (w : FactsItem text facts n third) → HypsRead (λ f. f.assumed) w.S w.x hyps) where
               abbrev read : HypsRead (λ f. f.assumed) S (item g.xs 3) hyps
               read = f naming_hyps
 

@@ -1,11 +1,12 @@
 -- The loop over the rules of a predicate: what is carried from rule to rule, and what is left. Assumes nothing.
 use mathlib.Core.Path.{◌≡◌, refl, sym, ap, ◌∙◌}
-use Rattle.std.specs.Prelude.{Some as some, None as nothing, Option}
+use Rattle.std.specs.Prelude.{Bool, true, false}
+use Rattle.std.proofs.Common.{add-one, drop_of_length-le, drop-cons}
 use mathlib.Core.List.{List, [], ◌∷◌}
 use Prim.Native.Nat.{ℕ, ◌+◌, ◌<◌, ◌≤◌}
 use native.Mathlib.Omega.{arith}
-use lib.ListN.{length, drop, length-drop}
-use Rattle.rules.specs.Limits.{SYMBOLS, VARIABLES, VARIABLEWORDS}
+use lib.ListN.{length, drop, get_or}
+use Rattle.rules.specs.Limits.{SYMBOLS, VARIABLES}
 use Rattle.rules.specs.Out.{Out, then}
 use Rattle.rules.specs.Find.{has, union, every}
 use Rattle.rules.specs.Tree.{Tree, var, app}
@@ -13,10 +14,8 @@ use Rattle.rules.specs.Store.{Made}
 use Rattle.rules.specs.Theory.{Theory, Rule, no_rule, head_is, rule, rules_of}
 use Rattle.rules.specs.State.{State}
 use Rattle.rules.specs.Invert.{Inversion, Names, taken_vars, predicate_of, invert_rule, invert_rules}
-use Rattle.rules.specs.Laws.Find.{first_some}
-use Rattle.sexp.specs.FoundLaws.{found_at, found_missing}
-use Rattle.kernel.specs.Readers.{FormedRules, SomeFormedRules}
-use Rattle.kernel.specs.Listing.{next_rule, with_rest, every_first}
+use Rattle.kernel.specs.Readers.{FormedRules, KnownFormedRule}
+use Rattle.kernel.specs.Entries.{formed_rule}
 use Rattle.terms.specs.declared.store.Mark.{Mark}
 use Rattle.terms.specs.Table.{made, tree, start, Good}
 use Rattle.terms.specs.Node.{head_of, HeadIs}
@@ -57,25 +56,31 @@ onward_all : (T : Theory) (p : ℕ) → rules_of T p ≡ onward T p 0
 unfolding rules_of onward
 onward_all T p = refl
 
-onward_none : (T : Theory) (p from : ℕ) → next_rule T p from ≡ nothing → onward T p from ≡ []
-unfolding onward next_rule with_rest
-onward_none T p from e =
-    every_first (λ (r : Rule). head_is p r.conclusion) T.rules no_rule from ∙ ap (with_rest (λ (r : Rule). head_is p r.conclusion) T.rules no_rule) e
+module _ {A : Type 0} (p : A → Bool) (xs : List A) (d : A) where
+  every_here : (i : ℕ) → i < length xs → p (get_or xs i d) ≡ true → every p (drop i xs) i ≡ i ∷ every p (drop (i + 1) xs) (i + 1)
+  unfolding every
+  every_here i l e = rw (drop-cons xs i d l, e, every, add-one)
 
-onward_some : (T : Theory) (p from r : ℕ) → next_rule T p from ≡ some r → onward T p from ≡ r ∷ onward T p (r + 1)
-unfolding onward next_rule with_rest
-onward_some T p from r e =
-    every_first (λ (r : Rule). head_is p r.conclusion) T.rules no_rule from ∙ ap (with_rest (λ (r : Rule). head_is p r.conclusion) T.rules no_rule) e
+  every_later : (i : ℕ) → i < length xs → p (get_or xs i d) ≡ false → every p (drop i xs) i ≡ every p (drop (i + 1) xs) (i + 1)
+  unfolding every
+  every_later i l e = rw (drop-cons xs i d l, e, every, add-one)
 
-next_inside : (T : Theory) (p from r : ℕ) → next_rule T p from ≡ some r → r < length T.rules
-unfolding next_rule
-next_inside T p from r e =
-    let f = first_some (λ (r : Rule). head_is p r.conclusion) (drop from T.rules) from r no_rule e in
-    omega (arith, f.is, f.inside, length-drop from T.rules)
+  every_over : (i : ℕ) → length xs ≤ i → every p (drop i xs) i ≡ []
+  unfolding every
+  every_over i l = rw (drop_of_length-le xs l)
 
-next_high : (T : Theory) (p from r : ℕ) → next_rule T p from ≡ some r → from ≤ r
-unfolding next_rule
-next_high T p from r e = let f = first_some (λ (r : Rule). head_is p r.conclusion) (drop from T.rules) from r no_rule e in omega (arith, f.is)
+module _ (T : Theory) (p r : ℕ) where
+  onward_over : length T.rules ≤ r → onward T p r ≡ []
+  unfolding onward
+  onward_over l = every_over (λ (u : Rule). head_is p u.conclusion) T.rules no_rule r l
+
+  onward_here : r < length T.rules → true ≡ head_is p (rule T r).conclusion → onward T p r ≡ r ∷ onward T p (r + 1)
+  unfolding onward rule
+  onward_here l e = every_here (λ (u : Rule). head_is p u.conclusion) T.rules no_rule r l (sym e)
+
+  onward_later : r < length T.rules → false ≡ head_is p (rule T r).conclusion → onward T p r ≡ onward T p (r + 1)
+  unfolding onward rule
+  onward_later l e = every_later (λ (u : Rule). head_is p u.conclusion) T.rules no_rule r l (sym e)
 
 -- The loop ---------------------------------------------------------------------------------------------------------------------------------
 
@@ -87,7 +92,6 @@ pub record RulesLeft (S : State) (Y : Inversion) (I W : List ℕ) (old : Mark) (
   pub vars_are : names_now.vars ≡ vars_with S.vars sorts count
   pub more : base ≤ count
   pub few : count ≤ VARIABLES
-  pub taken_long : length taken ≡ VARIABLEWORDS
   pub sorts_long : length sorts ≡ VARIABLES
   pub others : Unmade (length S.vars) count sorts
 
@@ -113,9 +117,9 @@ module _ {theory goals text symbols ins vars defs rules rulevars patterns facts 
         held = g.ruled.held;
       }
 
-  -- what `next_rule` asks
-  pub rounds_rules : SomeFormedRules symbols rules patterns n.rules
-  rounds_rules = (g.S.theory, formed)
+  -- what `concludes` asks
+  pub rounds_rule : {r : ℕ} → r < n.rules → KnownFormedRule symbols rules patterns r
+  rounds_rule l = formed_rule formed l
 
   pub rounds_start : {p : ℕ} → p ≡ predicate_of (tree I W m s) → RulesLeft g.S g.inversion I W m whole I W m taken₀ sorts₀ base base p 0
   rounds_start {p} e =
@@ -128,98 +132,103 @@ module _ {theory goals text symbols ins vars defs rules rulevars patterns facts 
         vars_are = g.vars_are;
         more = omega arith;
         few = g.few;
-        taken_long = g.taken_long;
         sorts_long = g.sorts_long;
         others = g.others;
       }
 
-  module _ {J X : List ℕ} {now : Mark} {taken sorts : List ℕ} {count p from : ℕ} (h : RulesLeft g.S g.inversion I W m whole J X now taken sorts base count p from)
-      {q : Option ℕ} (a : (T : Theory) → FormedRules symbols rules patterns n.rules T → q ≡ (next_rule T p from)) where
-    told : q ≡ (next_rule g.S.theory p from)
-    told = a g.S.theory formed
-
-    pub rounds_over : q ≡ nothing → Turned I W J X m g.S g.inversion whole taken sorts base count now
+  module _ {J X : List ℕ} {now : Mark} {taken sorts : List ℕ} {count p r : ℕ} (h : RulesLeft g.S g.inversion I W m whole J X now taken sorts base count p r) where
+    pub rounds_over : n.rules ≤ r → Turned I W J X m g.S g.inversion whole taken sorts base count now
     unfolding invert_rules
-    rounds_over e =
+    rounds_over l =
         record {
           names = h.names_now;
           went = on_done (on_is h.on
               (ap (λ (rs : List ℕ). invert_rules g.S g.inversion rs h.names_now (made J X now))
-              (onward_none g.S.theory p from (found_missing (next_rule g.S.theory p from) q told e))));
+              (onward_over g.S.theory p r (omega (arith, l, g.ruled.held.many)))));
           taken_is = h.taken_is;
           vars_are = h.vars_are;
           more = h.more;
           few = h.few;
-          taken_long = h.taken_long;
           sorts_long = h.sorts_long;
           others = h.others;
         }
 
-    module _ {r : ℕ} (e : q ≡ some r) where
-      next : next_rule g.S.theory p from ≡ some r
-      next = found_at (next_rule g.S.theory p from) q r told e
+    -- what `invert_rule` asks
+    abbrev pub rounds_turning :
+        Turning (names theory goals text symbols ins vars defs) (rule_lists theory rules rulevars patterns) facts lists n J X now cells s j context taken sorts count
+    rounds_turning =
+        record {
+          S = g.S;
+          footings = g.footings;
+          xs = g.xs;
+          inversion = g.inversion;
+          names = h.names_now;
+          refers = refers_on g.refers (grown_grows h.on.grown) h.on.grown.good;
+          ruled = g.ruled;
+          holds_items = g.holds_items;
+          cases_are = g.cases_are;
+          cases = g.cases;
+          hypothesis = g.hypothesis ∙ sym (grown_tree h.on.grown s g.hypothesis_there);
+          hypothesis_there = grown_there h.on.grown s g.hypothesis_there;
+          judgment = g.judgment ∙ sym (grown_tree h.on.grown j g.judgment_there);
+          judgment_there = grown_there h.on.grown j g.judgment_there;
+          context_is = g.context_is;
+          context_there = g.context_there;
+          taken_is = h.taken_is;
+          vars_are = h.vars_are;
+          more = omega (arith, g.more, h.more);
+          few = h.few;
+          sorts_long = h.sorts_long;
+          others = h.others;
+          low = g.low;
+        }
 
-      pub rounds_known : r < n.rules
-      rounds_known = omega (arith, next_inside g.S.theory p from r next, g.ruled.held.many)
+    module _ {b : Bool} (l : r < n.rules)
+        (a : (T : Theory) (count : ℕ) → FormedRules symbols rules patterns count T → r < count → b ≡ head_is p (rule T r).conclusion) where
+      there : r < length g.S.theory.rules
+      there = omega (arith, l, g.ruled.held.many)
 
-      pub rounds_high : from ≤ r
-      rounds_high = next_high g.S.theory p from r next
+      told : b ≡ head_is p (rule g.S.theory r).conclusion
+      told = a g.S.theory n.rules formed l
 
-      -- what `invert_rule` asks
-      abbrev pub rounds_turning :
-          Turning (names theory goals text symbols ins vars defs) (rule_lists theory rules rulevars patterns) facts lists n J X now cells s j context taken sorts count
-      rounds_turning =
+      -- a rule of another predicate
+      pub rounds_later : b ≡ false → RulesLeft g.S g.inversion I W m whole J X now taken sorts base count p (r + 1)
+      rounds_later e =
           record {
-            S = g.S;
-            footings = g.footings;
-            xs = g.xs;
-            inversion = g.inversion;
-            names = h.names_now;
-            refers = refers_on g.refers (grown_grows h.on.grown) h.on.grown.good;
-            ruled = g.ruled;
-            holds_items = g.holds_items;
-            cases_are = g.cases_are;
-            cases = g.cases;
-            hypothesis = g.hypothesis ∙ sym (grown_tree h.on.grown s g.hypothesis_there);
-            hypothesis_there = grown_there h.on.grown s g.hypothesis_there;
-            judgment = g.judgment ∙ sym (grown_tree h.on.grown j g.judgment_there);
-            judgment_there = grown_there h.on.grown j g.judgment_there;
-            context_is = g.context_is;
-            context_there = g.context_there;
+            names_now = h.names_now;
+            on = on_is h.on (ap (λ (rs : List ℕ). invert_rules g.S g.inversion rs h.names_now (made J X now)) (onward_later g.S.theory p r there (sym e ∙ told)));
             taken_is = h.taken_is;
-            taken_long = h.taken_long;
             vars_are = h.vars_are;
-            more = omega (arith, g.more, h.more);
+            more = h.more;
             few = h.few;
             sorts_long = h.sorts_long;
             others = h.others;
-            low = g.low;
           }
 
-      split : On I W m whole J X now
-          (then (invert_rule g.S g.inversion (rule g.S.theory r) h.names_now (made J X now))
-          (λ N E. invert_rules g.S g.inversion (onward g.S.theory p (r + 1)) N E))
-      unfolding invert_rules
-      split =
-          on_is h.on (ap (λ (rs : List ℕ). invert_rules g.S g.inversion rs h.names_now (made J X now)) (onward_some g.S.theory p from r next))
+      module _ (e : b ≡ true) where
+        split : On I W m whole J X now
+            (then (invert_rule g.S g.inversion (rule g.S.theory r) h.names_now (made J X now))
+            (λ N E. invert_rules g.S g.inversion (onward g.S.theory p (r + 1)) N E))
+        unfolding invert_rules
+        split =
+            on_is h.on (ap (λ (rs : List ℕ). invert_rules g.S g.inversion rs h.names_now (made J X now)) (onward_here g.S.theory p r there (sym e ∙ told)))
 
-      abbrev one_rule : Out Made Names
-      one_rule = invert_rule g.S g.inversion (rule g.S.theory r) h.names_now (made J X now)
+        abbrev one_rule : Out Made Names
+        one_rule = invert_rule g.S g.inversion (rule g.S.theory r) h.names_now (made J X now)
 
-      pub rounds_stopped : {Y Z : List ℕ} {k d : ℕ} {new : Mark} → Stopped J X Y Z now one_rule k d new → Stopped I W Y Z m whole k d new
-      rounds_stopped x = on_no _ split x
+        pub rounds_stopped : {Y Z : List ℕ} {k d : ℕ} {new : Mark} → Stopped J X Y Z now one_rule k d new → Stopped I W Y Z m whole k d new
+        rounds_stopped x = on_no _ split x
 
-      pub rounds_again : {Y Z taken' sorts' : List ℕ} {k : ℕ} {new : Mark} → Turned J X Y Z now g.S g.inversion one_rule taken' sorts' count k new →
-          RulesLeft g.S g.inversion I W m whole Y Z new taken' sorts' base k p (r + 1)
-      rounds_again d =
-          record {
-            names_now = d.names;
-            on = on_ok _ split d.went;
-            taken_is = d.taken_is;
-            vars_are = d.vars_are;
-            more = omega (arith, h.more, d.more);
-            few = d.few;
-            taken_long = d.taken_long;
-            sorts_long = d.sorts_long;
-            others = d.others;
-          }
+        pub rounds_again : {Y Z taken' sorts' : List ℕ} {k : ℕ} {new : Mark} → Turned J X Y Z now g.S g.inversion one_rule taken' sorts' count k new →
+            RulesLeft g.S g.inversion I W m whole Y Z new taken' sorts' base k p (r + 1)
+        rounds_again d =
+            record {
+              names_now = d.names;
+              on = on_ok _ split d.went;
+              taken_is = d.taken_is;
+              vars_are = d.vars_are;
+              more = omega (arith, h.more, d.more);
+              few = d.few;
+              sorts_long = d.sorts_long;
+              others = d.others;
+            }

@@ -36,7 +36,7 @@ use Rattle.sexp.specs.WalkLaws.{walk_rest}
 use Rattle.casework.specs.Cases.{CasesIn, CaseFound, CaseHere}
 -- beside `Below` of trees
 use Rattle.terms.specs.Table.{Below as There}
-use Rattle.casework.specs.Context.{IDS}
+use Rattle.referring.specs.Ids.{IDS}
 use Rattle.inversion.specs.InvertRules.{RuleVarsGiven, vars_with, CaseVarsGiven, CaseVarsAre, Lacking, LackedBy, lacks, Having, has_case, Turning, TurnedBy}
 use Rattle.reading.specs.Answers.{PassedBy}
 use Rattle.inversion.proofs.InvertNames.{with_length}
@@ -165,7 +165,6 @@ module _ {theory goals text symbols ins vars defs rules rulevars patterns facts 
               vars_are = refl;
               more = d.more;
               few = d.few;
-              taken_long = ap length e ∙ g.taken_long;
               sorts_long = d.long;
               others = d.others;
             }
@@ -269,10 +268,10 @@ module _ {theory goals text symbols ins vars defs rules rulevars patterns facts 
                 ∙ (λ i. then (has_case g.S (sym list_is i) (names_long i) (g.hypothesis i) R (g.context_is i) (sym are.fact_is i) (g.judgment i) (made I W m))
                 (λ z E. ok (record { vars = g.names.vars; seen = g.names.seen ++ c.vars }) E)))
 
-            pub turn_judged : length new-taken ≡ length taken → (J X : List ℕ) (new : Mark) (b : Answer) →
+            pub turn_judged : (J X : List ℕ) (new : Mark) (b : Answer) →
                 PassedBy I W J X m new (has_case g.S (take need list) count (tree I W m s) R context fact (tree I W m j) (made I W m)) b →
                 TurnedBy I W J X m new g.S g.inversion (invert_rule g.S g.inversion R g.names (made I W m)) new-taken sorts count count b
-            turn_judged t J X new (Ok _) k =
+            turn_judged J X new (Ok _) k =
                 record {
                   names = record { vars = g.names.vars; seen = g.names.seen ++ c.vars };
                   went = on_done (on_ok _ having k);
@@ -280,8 +279,7 @@ module _ {theory goals text symbols ins vars defs rules rulevars patterns facts 
                   vars_are = g.vars_are;
                   more = omega arith;
                   few = g.few;
-                  taken_long = t ∙ g.taken_long;
                   sorts_long = g.sorts_long;
                   others = g.others;
                 }
-            turn_judged t J X new (Err q) k = on_no _ having k
+            turn_judged J X new (Err q) k = on_no _ having k

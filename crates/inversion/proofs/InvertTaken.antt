@@ -8,7 +8,7 @@ use native.Mathlib.Omega.{arith}
 use native.Mathlib.Numerals.{add-one}
 use lib.ListN.{length, get_or, drop, replicate, drop_of_length-le}
 use lib.Seq.{drop-cons}
-use Rattle.rules.specs.Limits.{TERMWORDS, VARIABLEWORDS}
+use Rattle.rules.specs.Limits.{VARIABLEWORDS}
 use Rattle.rules.specs.Find.{Set, empty, union}
 use Rattle.rules.specs.Tree.{variables}
 use Rattle.rules.specs.State.{Fact, mentioned}
@@ -39,29 +39,24 @@ pub record Taking (facts lists : List ℕ) (n : Sizes) (I W : List ℕ) (m : Mar
   pub left : (g : Recalls facts lists n I W m) → union (holds set) (context_vars g.S.facts (drop k context))
       ≡ union (union (variables (tree I W m s)) (variables (tree I W m j))) (context_vars g.S.facts context)
   pub visits : Seen I W m (holds seen) (holds set)
-  pub long_seen : length seen ≡ TERMWORDS
-  pub long_set : length set ≡ VARIABLEWORDS
 
 pub taking_begins : {facts lists : List ℕ} {n : Sizes} {I W : List ℕ} {m : Mark} {s j : ℕ} {context set₀ seen set : List ℕ} {x₀ x₁ y₁ : Set} →
     set₀ ≡ replicate VARIABLEWORDS 0 → Visited I W m s x₀ (holds set₀) x₁ y₁ → Visited I W m j x₁ y₁ (holds seen) (holds set) →
-    length seen ≡ TERMWORDS → length set ≡ VARIABLEWORDS → Taking facts lists n I W m s j context seen set 0
-taking_begins {I = I} {W} {m} {s} {j} {context} z v w a b =
+    Taking facts lists n I W m s j context seen set 0
+taking_begins {I = I} {W} {m} {s} {j} {context} z v w =
     record {
       left = λ g. ap (λ (c : Set). union c (context_vars g.S.facts context))
           (w.set ∙ ap (λ (c : Set). union c (variables (tree I W m j)))
           (v.set ∙ ap (λ (c : Set). union c (variables (tree I W m s))) (ap holds z ∙ holds_zero VARIABLEWORDS)));
       visits = w.visits;
-      long_seen = a;
-      long_set = b;
     }
 
 module _ {facts lists : List ℕ} {n : Sizes} {I W : List ℕ} {m : Mark} {s j : ℕ} {context seen set : List ℕ} {k : ℕ}
     (v : Taking facts lists n I W m s j context seen set k) where
   pub taking_on : {seen' set' : List ℕ} → Recalls facts lists n I W m → Below n.facts context → k < length context →
-      length seen' ≡ length seen → length set' ≡ length set →
       ((g : Recalls facts lists n I W m) → Gathered I W m (mentioned (fact_of g.S (get_or context k 0))) (holds set) (holds seen') (holds set')) →
       Taking facts lists n I W m s j context seen' set' (k + 1)
-  taking_on {seen'} {set'} p t h x y w = record { left = left; visits = (w p).visits; long_seen = x ∙ v.long_seen; long_set = y ∙ v.long_set }
+  taking_on {seen'} {set'} p t h w = record { left = left; visits = (w p).visits }
     where
       left : (g : Recalls facts lists n I W m) → union (holds set') (context_vars g.S.facts (drop (k + 1) context))
           ≡ union (union (variables (tree I W m s)) (variables (tree I W m j))) (context_vars g.S.facts context)

@@ -10,6 +10,7 @@ pub mod InvertOn
 pub mod InvertRests
 pub mod InvertRounds
 pub mod InvertRuleTurn
+pub mod InvertSuits
 pub mod InvertTaken
 pub mod InvertTurns
 pub mod InvertVerdicts

@@ -23,8 +23,8 @@ use Rattle.state.specs.Members.{Under}
 use Rattle.questions.specs.declared.Question.{Question}
 use Rattle.questions.specs.Numbers.{number_of, detail_of}
 use Rattle.inversion.specs.declared.inverting.Variables.{Variables}
-use Rattle.inversion.specs.declared.invert.Inverted.{Inverted}
 use Rattle.referring.specs.Recall.{Refers, fact_of}
+use Rattle.referring.specs.declared.support.Derived.{Derived}
 use Rattle.referring.specs.Derived.{derived_fact}
 -- beside `Below` of trees
 use Rattle.terms.specs.Table.{Below as There}
@@ -94,9 +94,9 @@ pub record InvertedOn (I W J X : List ℕ) (old : Mark) (S : State) (K : Out Mad
   pub few : k ≤ VARIABLES
   pub others : Unmade (length S.vars) k sorts
 
-abbrev pub InvertedOnBy : List ℕ → List ℕ → List ℕ → List ℕ → Mark → Mark → State → Out Made (List Var) → Result Variables Question → Type 0
-InvertedOnBy I W J X old new S K (Ok v) = InvertedOn I W J X old S K v.sorts v.count new
-InvertedOnBy I W J X old new S K (Err q) = Stopped I W J X old K (number_of q) (detail_of q) new
+abbrev pub InvertedOnBy : List ℕ → List ℕ → List ℕ → List ℕ → Mark → Mark → State → Out Made (List Var) → Variables → Result (Unit {0}) Question → Type 0
+InvertedOnBy I W J X old new S K v (Ok _) = InvertedOn I W J X old S K v.sorts v.count new
+InvertedOnBy I W J X old new S K v (Err q) = Stopped I W J X old K (number_of q) (detail_of q) new
 
 -- K answers the fact with judgment j, and k variables: those of before and those made, by their sorts
 pub record InvertedRead (I W J X : List ℕ) (old : Mark) (S : State) (K : Out Made (Fact × List Var)) (hyps footing sorts : List ℕ) (j k : ℕ) (new : Mark) : Type 0 where
@@ -108,8 +108,8 @@ pub record InvertedRead (I W J X : List ℕ) (old : Mark) (S : State) (K : Out M
   pub few : k ≤ VARIABLES
   pub others : Unmade (length S.vars) k sorts
 
--- no reference of it is an instance
-abbrev pub InvertedBy : List ℕ → List ℕ → List ℕ → List ℕ → Mark → Mark → State → Out Made (Fact × List Var) → Result Inverted Question → Type 0
-InvertedBy I W J X old new S K (Ok a) =
-    InvertedRead I W J X old S K a.derived.support.hyps a.derived.support.footing a.vars.sorts a.derived.judgment a.vars.count new × (a.derived.instances ≡ 0)
-InvertedBy I W J X old new S K (Err q) = Stopped I W J X old K (number_of q) (detail_of q) new
+-- v: the variables; no reference of it is an instance
+abbrev pub InvertedBy : List ℕ → List ℕ → List ℕ → List ℕ → Mark → Mark → State → Out Made (Fact × List Var) → Variables → Result Derived Question → Type 0
+InvertedBy I W J X old new S K v (Ok d) =
+    InvertedRead I W J X old S K d.support.hyps d.support.footing v.sorts d.judgment v.count new × (d.instances ≡ 0)
+InvertedBy I W J X old new S K v (Err q) = Stopped I W J X old K (number_of q) (detail_of q) new

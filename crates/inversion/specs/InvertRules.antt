@@ -1,7 +1,7 @@
 -- One rule of `invert`: its renaming, its unification, its case; and what is carried from rule to rule. Variables that are made come into a table of
 -- sorts, from which their rows are written at the end. Assumes nothing.
 use Rattle.std.specs.Prelude.{◌≡◌, true, false, ◌&&◌, not, List, [], ◌∷◌, ◌++◌, ℕ, ◌+◌, ◌-◌, ◌*◌, ◌^◌, ◌<◌, ◌≤◌, ltb, length, get_or, take, drop, replicate, Option, Some as some, None as nothing, Result, Ok, Err}
-use Rattle.rules.specs.Limits.{VARIABLES, RULEVARS, TERMS, PAIRS, VARIABLEWORDS, TERMWORDS}
+use Rattle.rules.specs.Limits.{VARIABLES, RULEVARS, TERMS, PAIRS, TERMWORDS}
 use Rattle.rules.specs.Out.{Out, ok, refuse, Act, ◌>>=◌, pure, stop, ask}
 use Rattle.rules.specs.Sexp.{Sexp, Sexps, cons, count as count_items, item}
 use Rattle.rules.specs.Find.{Set, union, has, all, entry}
@@ -24,7 +24,7 @@ use Rattle.terms.specs.declared.store.Mark.{Mark}
 use Rattle.terms.specs.Table.{made, tree, Good}
 use Rattle.terms.specs.Sets.{holds}
 use Rattle.terms.specs.Theta.{bindings, Theta}
-use Rattle.terms.specs.Patterns.{bound_of, Cells}
+use Rattle.terms.specs.Patterns.{cells_of, bound_of, Cells}
 use Rattle.terms.specs.On.{Went, Stopped}
 use Rattle.kernel.specs.HeldRules.{RulesHeld}
 use Rattle.kernel.specs.Readers.{FormedRules}
@@ -37,7 +37,8 @@ use Rattle.referring.specs.Recall.{Refers, Recalls, fact_of}
 use Rattle.casework.specs.Cases.{CaseItem, no_case}
 -- beside `Below` of trees
 use Rattle.terms.specs.Table.{Below as There}
-use Rattle.casework.specs.Context.{IDS, RenamedRule, RestsGiven, rests_by}
+use Rattle.referring.specs.Ids.{IDS}
+use Rattle.casework.specs.Context.{RenamedRule, RestsGiven, rests_by}
 
 -- Variables ------------------------------------------------------------------------------------------------------------------------------
 
@@ -114,9 +115,9 @@ pub record VarsKept (I W J X : List ℕ) (old : Mark) (list bound : List ℕ) (n
   pub binds : (i : ℕ) → i < length list → bound_of (made J X new) bound i ≡ some (renaming list i)
   pub cells : Cells new.terms bound
 
-abbrev pub KeptBy : List ℕ → List ℕ → List ℕ → List ℕ → Mark → Mark → List ℕ → List ℕ → Result (Unit {0}) Row → Type 0
-KeptBy I W J X old new list into (Ok _) = VarsKept I W J X old list into new
-KeptBy I W J X old new list into (Err row) = Stopped I W J X old (keep_vars list (made I W old)) 60 (row_number row) new
+abbrev pub KeptBy : List ℕ → List ℕ → List ℕ → List ℕ → Mark → Mark → List ℕ → Result (List (Option ℕ)) Row → Type 0
+KeptBy I W J X old new list (Ok bound) = VarsKept I W J X old list (cells_of bound) new
+KeptBy I W J X old new list (Err row) = Stopped I W J X old (keep_vars list (made I W old)) 60 (row_number row) new
 
 -- The rule meets the hypothesis ------------------------------------------------------------------------------------------------------------
 
@@ -153,8 +154,8 @@ pub record Met (I W J X : List ℕ) (old : Mark) (K : Out Made (Option (List Bin
   pub cells : Cells new.terms bound
 
 -- theta: the cells afterwards, zero unless there is one
-abbrev pub MetBy : List ℕ → List ℕ → List ℕ → List ℕ → Mark → Mark → Out Made (Option (List Binding)) → List ℕ → List ℕ → Result (Option (List ℕ)) Question → Type 0
-MetBy I W J X old new K list theta (Ok (some bound)) = Met I W J X old K list bound theta new
+abbrev pub MetBy : List ℕ → List ℕ → List ℕ → List ℕ → Mark → Mark → Out Made (Option (List Binding)) → List ℕ → List ℕ → Result (Option (List (Option ℕ))) Question → Type 0
+MetBy I W J X old new K list theta (Ok (some bound)) = Met I W J X old K list (cells_of bound) theta new
 MetBy I W J X old new K list theta (Ok nothing) = Went I W J X old K nothing new × (theta ≡ replicate VARIABLES 0)
 MetBy I W J X old new K list theta (Err q) = Stopped I W J X old K (number_of q) (detail_of q) new × (theta ≡ replicate VARIABLES 0)
 
@@ -276,7 +277,6 @@ pub record Turning (K : Texts) (P : RuleLists) (facts lists : List ℕ) (n : Siz
   pub context_is : inversion.context ≡ context
   pub context_there : There n.facts context
   pub taken_is : holds taken ≡ union (taken_vars S inversion) (has names.seen)
-  pub taken_long : length taken ≡ VARIABLEWORDS
   pub vars_are : names.vars ≡ vars_with S.vars sorts count
   pub more : length S.vars ≤ count
   pub few : count ≤ VARIABLES
@@ -292,7 +292,6 @@ pub record Turned (I W J X : List ℕ) (old : Mark) (S : State) (Y : Inversion) 
   pub vars_are : names.vars ≡ vars_with S.vars sorts count
   pub more : base ≤ count
   pub few : count ≤ VARIABLES
-  pub taken_long : length taken ≡ VARIABLEWORDS
   pub sorts_long : length sorts ≡ VARIABLES
   pub others : Unmade (length S.vars) count sorts
 

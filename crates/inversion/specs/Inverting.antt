@@ -1,6 +1,6 @@
 -- What is inverted, as it is lent, beside a store, and what is answered. Each is the relation of the same meaning over plain tables. Assumes nothing.
 use Rattle.state.specs.Records.{fact_rows, fact_feet}
-use Rattle.std.specs.Prelude.{◌≡◌, List, ℕ, Option, Result}
+use Rattle.std.specs.Prelude.{List, ℕ, Option, Result}
 use Rattle.rules.specs.Out.{Out}
 use Rattle.rules.specs.Store.{Made}
 use Rattle.rules.specs.Unify.{Binding}
@@ -10,16 +10,17 @@ use Rattle.questions.specs.declared.Row.{Row}
 use Rattle.questions.specs.declared.Question.{Question}
 use Rattle.kernel.specs.declared.rule_readers.Rules.{Rules}
 use Rattle.terms.specs.declared.store.Store.{Store}
+use Rattle.terms.specs.Patterns.{cells_of}
 use Rattle.unification.specs.declared.unify.Scratch.{Scratch}
 use Rattle.referring.specs.declared.source.Facts.{Facts}
 use Rattle.referring.specs.declared.source.Source.{Source}
+use Rattle.referring.specs.declared.support.Derived.{Derived}
 use Rattle.referring.specs.Sources.{source_names, rules_of}
 use Rattle.casework.specs.declared.context.Renamed.{Renamed}
 use Rattle.inversion.specs.declared.inverting.Inverting.{Inverting}
 use Rattle.inversion.specs.declared.inverting.Variables.{Variables}
 use Rattle.inversion.specs.declared.inverting.Renaming.{Renaming}
 use Rattle.inversion.specs.declared.inverting.RuleVars.{RuleVars}
-use Rattle.inversion.specs.declared.invert.Inverted.{Inverted}
 use Rattle.inversion.specs.InvertRules.{RuleVarsGiven, CaseVarsGiven, KeptBy, Empty, Meeting, MetBy, Judging, Verdict, Lacking, LackedBy, Having, Turning, TurnedBy}
 use Rattle.inversion.specs.Inversions.{NamingForm, InvertForm, InvertingOn, InvertedOnBy, InvertedBy}
 
@@ -27,10 +28,6 @@ use Rattle.inversion.specs.Inversions.{NamingForm, InvertForm, InvertingOn, Inve
 
 abbrev pub EmptyScratch : Scratch → Type 0
 EmptyScratch x = Empty x.map.now x.memo.now x.pairs.now x.seen.now
-
--- it holds what it held
-abbrev pub ScratchKept : Scratch → Scratch → Type 0
-ScratchKept x y = (y.map.now ≡ x.map.now) × (y.memo.now ≡ x.memo.now) × (y.pairs.now ≡ x.pairs.now) × (y.seen.now ≡ x.seen.now)
 
 -- One rule -------------------------------------------------------------------------------------------------------------------------
 
@@ -42,20 +39,20 @@ RuleVarsIn u = RuleVarsGiven u.rules.vars.now u.rule u.count
 abbrev pub CaseVarsIn : Inverting → List ℕ → RuleVars → Type 0
 CaseVarsIn v cells u = let x = v.source.reader in CaseVarsGiven x.goals.now x.text.now x.vars.now u.rules.vars.now x.n.vars cells u.rule u.count
 
-abbrev pub KeptAs : Store → Store → List ℕ → List ℕ → Result (Unit {0}) Row → Type 0
-KeptAs s t list into r = KeptBy s.index.now s.words.now t.index.now t.words.now s.mark t.mark list into r
+abbrev pub KeptAs : Store → Store → List ℕ → Result (List (Option ℕ)) Row → Type 0
+KeptAs s t list r = KeptBy s.index.now s.words.now t.index.now t.words.now s.mark t.mark list r
 
 abbrev pub MeetingIn : Inverting → Store → Renaming → Type 0
 MeetingIn v s own =
     Meeting v.source.reader.symbols.now v.rules.rows.now v.rules.patterns.now v.source.reader.n s.index.now s.words.now s.mark own.rule v.hypothesis own.count own.vars.now
 
-abbrev pub MetAs : Store → Store → Out Made (Option (List Binding)) → List ℕ → List ℕ → Result (Option (List ℕ)) Question → Type 0
+abbrev pub MetAs : Store → Store → Out Made (Option (List Binding)) → List ℕ → List ℕ → Result (Option (List (Option ℕ))) Question → Type 0
 MetAs s t K list theta r = MetBy s.index.now s.words.now t.index.now t.words.now s.mark t.mark K list theta r
 
 -- t: the case's judgment
 abbrev pub JudgingIn : Inverting → Store → Renamed → ℕ → List ℕ → List ℕ → Type 0
 JudgingIn v s m t memo ids =
-    Judging v.source.reader.symbols.now v.rules.rows.now v.rules.patterns.now (fact_rows v.source.records.now) v.source.lists.now v.source.reader.n s.index.now s.words.now s.mark m.rule t m.bound.now m.theta.now memo v.context.now ids
+    Judging v.source.reader.symbols.now v.rules.rows.now v.rules.patterns.now (fact_rows v.source.records.now) v.source.lists.now v.source.reader.n s.index.now s.words.now s.mark m.rule t (cells_of m.bound.now) m.theta.now memo v.context.now ids
 
 abbrev pub VerdictIn : Facts → ℕ → ℕ → List ℕ → Type 0
 VerdictIn f i t own = Verdict (fact_rows f.records.now) f.n i t own
@@ -93,8 +90,8 @@ abbrev pub InvertsOn : Inverting → Store → List ℕ → Type 0
 InvertsOn v s cells =
     InvertingOn (source_names v.source) (rules_of v.source v.rules) (fact_rows v.source.records.now) v.source.lists.now v.source.reader.n s.index.now s.words.now s.mark cells v.hypothesis v.judgment v.context.now
 
-abbrev pub InvertedOnAs : Store → Store → State → Out Made (List Var) → Result Variables Question → Type 0
-InvertedOnAs s t S K r = InvertedOnBy s.index.now s.words.now t.index.now t.words.now s.mark t.mark S K r
+abbrev pub InvertedOnAs : Store → Store → State → Out Made (List Var) → Variables → Result (Unit {0}) Question → Type 0
+InvertedOnAs s t S K v r = InvertedOnBy s.index.now s.words.now t.index.now t.words.now s.mark t.mark S K v r
 
-abbrev pub InvertedAs : Store → Store → State → Out Made (Fact × List Var) → Result Inverted Question → Type 0
-InvertedAs s t S K r = InvertedBy s.index.now s.words.now t.index.now t.words.now s.mark t.mark S K r
+abbrev pub InvertedAs : Store → Store → State → Out Made (Fact × List Var) → Variables → Result Derived Question → Type 0
+InvertedAs s t S K v r = InvertedBy s.index.now s.words.now t.index.now t.words.now s.mark t.mark S K v r

@@ -22,13 +22,22 @@ pub struct RuleVars<'a> {
     pub count: usize,
 }
 
-// The variables that a case must not have, the sorts of those that were made, each at its number, and how many variables there are: there is no heap for
-// a list of sorts.
+// The variables that a case must not have, the sorts of those that were made, each at its number, and how many variables there are: an array as long as
+// the sorts may be, since there is no heap, and the core stands on `std` alone, which has no vector without one.
 #[derive(Drop)]
 pub struct Variables {
     pub taken: [u64; VARIABLEWORDS],
     pub sorts: [u32; VARIABLES],
     pub count: usize,
+}
+
+impl Variables {
+    // What is lent to be written.
+    pub const NONE: Variables = Variables {
+        taken: [0; VARIABLEWORDS],
+        sorts: [0; VARIABLES],
+        count: 0,
+    };
 }
 
 // A rule by its number, the variables that stand for its own, and how many variables there are in all.

@@ -17,7 +17,7 @@ ghost use Rattle.inversion.specs.Inverting.{JudgingIn, VerdictIn};
 ghost use Rattle.reading.specs.Answers.{PassedAs};
 
 use crate::inverting::Inverting;
-use casework::context::{Grounds, Renamed, context_facts, no_grounds, rests_on_all, rule_premises};
+use casework::context::{Grounds, Renamed, context_facts, rule_premises};
 use questions::Question;
 use referring::source::Facts;
 use state::recorded::is_fact;
@@ -42,7 +42,7 @@ fn verdict(facts: &Facts<'_>, i: usize, t: usize, grounds: &Grounds<'_>) -> Resu
         result ≡ verdict_of g.given.S g.given.trees i (get_or g.given.trees t (var 0)) (holds grounds.now.plain) (holds grounds.now.fine) }
 {
     facts.concludes(i, t)?;
-    if !rests_on_all(facts, grounds) {
+    if !grounds.rests_on_all(facts) {
         return Err(Question::CaseHypotheses);
     }
     Ok(())
@@ -67,7 +67,7 @@ impl Inverting<'_> {
         ensures memo_unchanged { (memo.new ≡ memo.old) × (ids.new ≡ ids.old) }
     {
         let facts = self.source.facts();
-        let none = no_grounds(own_hyps(&facts, i));
+        let none = Grounds::none(own_hyps(&facts, i));
         let symbols = self.source.reader.symbols;
         let first = rule_premises(&self.rules, symbols, store, renamed, memo, none)?;
         let grounds = context_facts(&facts, store, renamed.theta, memo, self.context, ids, first)?;

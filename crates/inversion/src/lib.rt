@@ -3,7 +3,7 @@
 #![tactic(auto)]
 
 pub mod invert;
-mod inverting;
+pub mod inverting;
 mod judging;
 mod meeting;
 mod renaming;

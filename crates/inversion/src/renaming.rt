@@ -1,6 +1,6 @@
 // The variables of a rule, renamed: those of its case, which suit it and are new (question 42), or made ones, where there is no case.
 ghost use Rattle.std.specs.Prelude.{◌≡◌, List, ℕ, ◌≤◌, length};
-ghost use Rattle.rules.specs.Limits.{VARIABLES, RULEVARS, VARIABLEWORDS};
+ghost use Rattle.rules.specs.Limits.{VARIABLES};
 ghost use Rattle.rules.specs.Theory.{rule};
 ghost use Rattle.rules.specs.State.{Var};
 ghost use Rattle.rules.specs.Invert.{suit};
@@ -15,7 +15,7 @@ use casework::context::none_in;
 use cells::write;
 use questions::{Question, Row};
 use referring::references::insert_all;
-use rules::VARIABLES;
+use rules::{RULEVARS, VARIABLES, VARIABLEWORDS};
 use state::vars::var_sort;
 
 impl RuleVars<'_> {
@@ -25,19 +25,14 @@ impl RuleVars<'_> {
         ensures { (g : RuleVarsIn self.now) (vs : List Var) (count : ℕ) → VarCells vars.now count vs →
             result ≡ suit vs list.now (rule g.T self.now.rule).vars }
     {
-        if list.len() != self.count {
-            return false;
-        }
-        for (k, v) in list.iter().enumerate() {
-            if var_sort(vars, *v as usize) != self.rules.variable_sort(self.rule, k) {
-                return false;
-            }
-        }
-        true
+        list.len() == self.count
+            && list.iter().enumerate().all(|(k, v)| {
+                var_sort(vars, *v as usize) == self.rules.variable_sort(self.rule, k)
+            })
     }
 
-    // A variable without a name for each of the rule's: its sort comes into the table, its number into the list. The list is lent: there
-    // is no heap for one to answer.
+    // A variable without a name for each of the rule's: its sort comes into the table, its number into the list. The list is lent, in cells
+    // for as many as there can be: no heap, and the core stands on `std` alone, which has no vector without one.
     pub fn make(&self, names: &mut Variables, list: &mut [u32]) -> Result<(), Row>
         requires { RuleVarsIn self.now × (self.now.count ≤ length list.old) × (length names.old.sorts ≡ VARIABLES) × (names.old.count ≤ VARIABLES) }
         ensures made_as { (g : RuleVarsIn self.now) (vs : List Var) → length vs ≤ names.old.count →
@@ -65,10 +60,10 @@ impl Inverting<'_> {
         &self,
         cells: &[u32],
         need: &RuleVars<'_>,
-        taken: &mut [u64],
-        list: &mut [u32],
+        taken: &mut [u64; VARIABLEWORDS],
+        list: &mut [u32; RULEVARS],
     ) -> Result<usize, Question>
-        requires { CaseVarsIn self.now cells.now need.now × (length taken.old ≡ VARIABLEWORDS) × (length list.old ≡ RULEVARS) }
+        requires { CaseVarsIn self.now cells.now need.now }
         ensures { (g : CaseVarsIn self.now cells.now need.now) →
             CaseVarsAs g.S (rule g.S.theory need.now.rule).vars g.c taken.old taken.new list.new result }
     {

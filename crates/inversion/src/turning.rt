@@ -5,10 +5,10 @@ ghost use Rattle.rules.specs.Theory.{rule, rules_of};
 ghost use Rattle.rules.specs.Invert.{invert_rule, invert_rules, predicate_of};
 ghost use Rattle.terms.specs.Table.{tree};
 ghost use Rattle.terms.specs.Lent.{GoodTerms, SameTables, made_of};
-ghost use Rattle.unification.specs.Unify.{SameScratch};
-ghost use Rattle.casework.specs.Context.{IDS};
+ghost use Rattle.unification.specs.Unify.{SameScratch, ScratchKept};
+ghost use Rattle.referring.specs.Ids.{IDS};
 ghost use Rattle.inversion.specs.InvertRules.{vars_with, lacks, has_case};
-ghost use Rattle.inversion.specs.Inverting.{EmptyScratch, ScratchKept, LackingIn, LackedAs, HavingIn, TurningIn, TurnedAs};
+ghost use Rattle.inversion.specs.Inverting.{EmptyScratch, LackingIn, LackedAs, HavingIn, TurningIn, TurnedAs};
 ghost use Rattle.reading.specs.Answers.{PassedAs};
 
 use crate::inverting::{Inverting, Renaming, RuleVars, Variables};
@@ -16,7 +16,8 @@ use casework::cases::find_case;
 use casework::context::Renamed;
 use cells::Span;
 use questions::Question;
-use rules::{PAIRS, RULEVARS, SYMBOLS, TERMWORDS, VARIABLES};
+use rules::{PAIRS, RULEVARS, TERMWORDS, VARIABLES};
+use terms::heads::{Head, head_of};
 use terms::store::{Store, Terms};
 use unification::unify::Scratch;
 
@@ -25,11 +26,10 @@ fn predicate_of(terms: &Terms<'_>, s: usize) -> usize
     requires { GoodTerms terms.now × (s < terms.now.mark.terms) }
     ensures { let t = terms.now in result ≡ predicate_of (tree t.index.now t.words.now t.mark s) }
 {
-    let h = terms.head(s);
-    if h < SYMBOLS {
-        return h;
+    match head_of(terms.node(s)[0]) {
+        Head::Symbol(p) => p,
+        Head::Variable(_) => 0,
     }
-    0
 }
 
 impl Inverting<'_> {
@@ -159,14 +159,12 @@ impl Inverting<'_> {
     {
         let reader = &self.source.reader;
         let predicate = predicate_of(&store.terms(), self.hypothesis);
-        let mut from = 0;
-        // no count: it jumps to the next rule of the predicate
-        while let Some(r) = self
-            .rules
-            .next_rule(reader.symbols, reader.n.rules, predicate, from)
-        {
+        // no filter over the range: its closure would have to be told of each number what `concludes` asks
+        for r in 0..reader.n.rules {
+            if !self.rules.concludes(reader.symbols, r, predicate) {
+                continue;
+            }
             self.invert_rule(store, cases, r, names, scratch, ids)?;
-            from = r + 1;
         }
         Ok(())
     }

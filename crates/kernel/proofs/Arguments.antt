@@ -21,8 +21,8 @@ use Rattle.rules.specs.Laws.Declaring.{proper, sort_of, sort_of_name, sorts_none
 use Rattle.sexp.specs.Encode.{encodes}
 use Rattle.sexp.specs.Items.{Holds, Held, item_of, item_at, behind}
 use Rattle.sexp.specs.Spelt.{Spelt}
-use Rattle.sexp.specs.WalkLaws.{Walk, walk_start, walk_over, ListIs, AtomIs}
-use Rattle.sexp.specs.Each.{Here}
+use Rattle.sexp.specs.WalkLaws.{Walk, walk_start, walk_over, AtomIs}
+use Rattle.sexp.specs.Each.{Here, ListOf}
 use Rattle.sexp.specs.declared.items.Each.{Each}
 use Rattle.sexp.specs.declared.items.Item.{Item}
 use Rattle.kernel.specs.Held.{SortsHeld, SomeSorts, ArgumentsRead}
@@ -190,7 +190,7 @@ pub arguments_atom : (T : Theory) (x : Sexp) {text : List ℕ} {p : ℕ} → Ato
 unfolding arguments_of
 arguments_atom T x a = ap (arguments_of T) a.is
 
-pub arguments_list : {text words : List ℕ} {a b : ℕ} (T : Theory) (x : Sexp) (k : ListIs text words x a b) → sorts T k.items 0 (tt {0}) ≡ arguments_of T x
+pub arguments_list : {text words part : List ℕ} (T : Theory) (x : Sexp) (k : ListOf text words x part) → sorts T k.items 0 (tt {0}) ≡ arguments_of T x
 unfolding arguments_of
 arguments_list T x k = sym (ap (arguments_of T) k.is)
 

@@ -1,22 +1,24 @@
 -- The premises of a rule, one at a time: where their reader stands, and what it answers. Assumes nothing.
 use mathlib.Core.Path.{◌≡◌, refl, sym, ap, ◌∙◌, subst}
-use Prim.Native.Nat.{ℕ, ◌-◌, ◌<◌, ◌≤◌}
+use Prim.Native.Nat.{ℕ, ◌+◌, ◌<◌, ◌≤◌}
 use mathlib.Core.List.{List}
 use native.Mathlib.Omega.{arith}
-use lib.ListN.{length, take, drop}
+use lib.ListN.{length, take}
 use Rattle.rules.specs.Limits.{PATTERNS}
 use Rattle.rules.specs.Out.{ok, then}
-use Rattle.rules.specs.Sexp.{Sexps, list, cons}
+use Rattle.rules.specs.Sexp.{Sexp, Sexps, list, cons, count, item}
 use Rattle.rules.specs.Tree.{none, more}
 use Rattle.rules.specs.Theory.{Theory}
 use Rattle.rules.specs.TheoryTables.{prefix, prefixes}
 use Rattle.rules.specs.Laws.Row.{append-nil}
 use Rattle.rules.specs.Declare.{Reading, predicated, judgments}
 use Rattle.rules.specs.Laws.PatternSteps.{judgments_none, judgments_atom, judgments_more}
-use Rattle.sexp.specs.Items.{Holds, item_at}
-use Rattle.sexp.specs.WalkLaws.{Walk, walk_start, walk_more, walk_over, walk_atom, walk_list, past_list, list_on}
-use Rattle.sexp.specs.declared.items.Item.{Item}
-use Rattle.sexp.specs.declared.items.Item.TheVariants.{Atom, List as Part}
+use Rattle.sexp.specs.Encode.{encode}
+use Rattle.sexp.specs.Items.{Holds, behind}
+use Rattle.sexp.specs.ItemLaws.{at_next, item_here, behind_item}
+use Rattle.sexp.specs.WalkLaws.{AtomIs, Walk, walk_start, walk_more, walk_over, walk_rest}
+use Rattle.sexp.specs.Each.{Here, ListOf, first_list, first_atom}
+use Rattle.sexp.specs.declared.items.Each.{Each}
 use Rattle.kernel.specs.Held.{SymbolsHeld}
 use Rattle.kernel.specs.Reading.{SameTables, ReadSoFar, Written, Stopped, PatternRead, Patterning}
 use Rattle.kernel.specs.declared.patterns.RuleReader.{RuleReader}
@@ -26,33 +28,48 @@ use Rattle.questions.specs.Numbers.{number_of, detail_of}
 use Rattle.questions.specs.declared.Question.TheVariants.{Declared}
 use Rattle.kernel.proofs.Trees.{symbolic, pair_stopped, pair_read}
 
+-- an item and the others: its cells, and the place behind it
+pub record Ahead (text cells words : List ℕ) (left : Sexps) (next : ℕ) : Type 0 where
+  pub x : Sexp
+  pub others : Sexps
+  pub is : left ≡ cons x others
+  pub holds : Holds text words (cons x others)
+  pub rest : Walk text cells next others
+
+pub ahead : {text cells words : List ℕ} {at : ℕ} {left : Sexps} {next : Each} → Walk text cells at left → Here cells words at next → Ahead text cells words left next.at
+ahead {text} {cells} {words} {at} {left} {next} k h =
+    let m = walk_more k h.inside in
+    let w : Walk text cells at (cons m.first m.others) = subst (λ z. Walk text cells at z) m.is k in
+    let n : next.at ≡ at + length (encode m.first) = h.behind ∙ ap (behind at) (item_here m.first w.here) ∙ behind_item at m.first in
+    record {
+      x = m.first;
+      others = m.others;
+      is = m.is;
+      holds = rw h.is (walk_rest w);
+      rest = record { here = rw n (at_next w.here); spelt = w.spelt.1 };
+    }
+
+-- what `list` answers of the item
+abbrev pub Listed : List ℕ → List ℕ → Type 0
+Listed words part = (t : List ℕ) (xs : Sexps) → Holds t words xs → 0 < count xs → ListOf t words (item xs 0) part
+
+abbrev pub Unlisted : List ℕ → Type 0
+Unlisted words = (t : List ℕ) (xs : Sexps) → Holds t words xs → 0 < count xs → (p : ℕ) × AtomIs t (item xs 0) p
+
 -- the next item is a list, and the others stand behind it
-pub record Next (text cells : List ℕ) (at : ℕ) (left : Sexps) (a b : ℕ) : Type 0 where
+pub record Next (text cells : List ℕ) (left : Sexps) (part : List ℕ) (next : ℕ) : Type 0 where
   pub inner : Sexps
   pub others : Sexps
   pub is : left ≡ cons (list inner) others
-  pub low : a ≤ b
-  pub high : b ≤ length cells
-  pub on : at < b
-  pub holds : Holds text (take (b - a) (drop a cells)) inner
-  pub rest : Walk text cells b others
+  pub holds : Holds text part inner
+  pub rest : Walk text cells next others
 
-pub next_list : {text cells : List ℕ} {at : ℕ} {left : Sexps} {item : Item} {a b : ℕ} → Walk text cells at left → at < length cells → item ≡ item_at cells at → item ≡ Part a b →
-    Next text cells at left a b
-next_list {text} {cells} {at} k h e g =
-    let m = walk_more k h in
-    let w : Walk text cells at (cons m.first m.others) = subst (λ z. Walk text cells at z) m.is k in
-    let l = walk_list w e g in
-    record {
-      inner = l.items;
-      others = m.others;
-      is = m.is ∙ ap (λ x. cons x m.others) l.is;
-      low = l.low;
-      high = l.high;
-      on = list_on w e g;
-      holds = l.holds;
-      rest = past_list w e g;
-    }
+pub next_list : {text cells words part : List ℕ} {at : ℕ} {left : Sexps} {next : Each} → Walk text cells at left → Here cells words at next → Listed words part →
+    Next text cells left part next.at
+next_list k h l =
+    let a = ahead k h in
+    let o = first_list a.holds l in
+    record { inner = o.items; others = a.others; is = a.is ∙ ap (λ x. cons x a.others) o.is; holds = o.holds; rest = a.rest }
 
 -- Where the reader stands ----------------------------------------------------------------------------------------------------------
 
@@ -81,19 +98,19 @@ module _ {text cells : List ℕ} {T : Theory} {R : Reading} {zs : Sexps} {P : Li
         long = refl;
       })
 
-  pub going_atom : {item : Item} {p : ℕ} → at < length cells → item ≡ item_at cells at → item ≡ Atom p → Stopped P M used (judgments T zs R) 11 0
-  going_atom {p = p} h e b =
-      let m = walk_more g.walk h in
-      let k = walk_atom (subst (λ z. Walk text cells at z) m.is g.walk) e b in
+  pub going_atom : {words : List ℕ} {next : Each} → Here cells words at next → Unlisted words → Stopped P M used (judgments T zs R) 11 0
+  going_atom h n =
+      let f = ahead g.walk h in
+      let k = (first_atom f.holds n).1 in
       g.onward table v M w (Err Declared)
       (record {
         now = g.now;
-        is = ap (λ z. judgments T z g.now) (m.is ∙ ap (λ x. cons x m.others) k.is) ∙ judgments_atom g.now T p k.bytes m.others;
+        is = ap (λ z. judgments T z g.now) (f.is ∙ ap (λ x. cons x f.others) k.is) ∙ judgments_atom g.now T _ k.bytes f.others;
         words = refl;
         long = refl;
       })
 
-  module _ (long : length P ≡ PATTERNS) {a b : ℕ} (f : Next text cells at g.left a b) where
+  module _ (long : length P ≡ PATTERNS) {part : List ℕ} {next : ℕ} (f : Next text cells g.left part next) where
     splits : judgments T g.left g.now ≡ then (predicated T f.inner g.now) (λ t U. then (judgments T f.others U) (λ ts W. ok (more t ts) W))
     splits = ap (λ z. judgments T z g.now) f.is ∙ judgments_more g.now T f.inner f.others
 
@@ -104,7 +121,7 @@ module _ {text cells : List ℕ} {T : Theory} {R : Reading} {zs : Sexps} {P : Li
         Stopped P M' used (judgments T zs R) (number_of x) (detail_of x)
     going_stops {M'} x q = g.onward table v M' w (Err x) (pair_stopped text (predicated T f.inner g.now) (λ U. judgments T f.others U) splits w M low q)
 
-    pub going_on : {table' M' : List ℕ} {n m : ℕ} → Written prefix text table' M M' w (predicated T f.inner g.now) n m → Premising text cells T R zs P used table' M' b n m
+    pub going_on : {table' M' : List ℕ} {n m : ℕ} → Written prefix text table' M M' w (predicated T f.inner g.now) n m → Premising text cells T R zs P used table' M' next n m
     going_on {M' = M'} {m = m} k =
         let high : m ≤ length M' = omega (arith, k.reads.room, k.long, g.long, long) in
         record {
@@ -119,26 +136,26 @@ module _ {text cells : List ℕ} {T : Theory} {R : Reading} {zs : Sexps} {P : Li
 -- The loop -------------------------------------------------------------------------------------------------------------------------
 
 -- the same for whatever theory the tables hold
-pub record Running (text cells symbols inputs : List ℕ) (known : ℕ) (table₀ : List ℕ) (count : ℕ) (P : List ℕ) (used : ℕ) (table M : List ℕ) (at v w : ℕ) : Type 0 where
-  pub goes : (T : Theory) (R : Reading) (zs : Sexps) → SymbolsHeld text symbols inputs known T.symbols → ReadSoFar text table₀ count used R → Holds text cells zs →
+pub record Running (text cells symbols inputs : List ℕ) (known : ℕ) (table₀ : List ℕ) (many : ℕ) (P : List ℕ) (used : ℕ) (table M : List ℕ) (at v w : ℕ) : Type 0 where
+  pub goes : (T : Theory) (R : Reading) (zs : Sexps) → SymbolsHeld text symbols inputs known T.symbols → ReadSoFar text table₀ many used R → Holds text cells zs →
       Premising text cells T R zs P used table M at v w
 
-pub running_start : (text cells symbols inputs : List ℕ) (known : ℕ) (table : List ℕ) (count : ℕ) (P : List ℕ) (used : ℕ) →
-    Running text cells symbols inputs known table count P used table P 0 count used
-running_start text cells symbols inputs known table count P used =
+pub running_start : (text cells symbols inputs : List ℕ) (known : ℕ) (table : List ℕ) (many : ℕ) (P : List ℕ) (used : ℕ) →
+    Running text cells symbols inputs known table many P used table P 0 many used
+running_start text cells symbols inputs known table many P used =
     record { goes = λ T R zs h r k. record { left = zs; walk = walk_start k; now = R; reads = r; long = refl; onward = λ t v' Q w' a q. q } }
 
-module _ {text cells symbols inputs : List ℕ} {known : ℕ} {table₀ : List ℕ} {count : ℕ} {P : List ℕ} {used : ℕ} {table M : List ℕ} {at v w : ℕ}
-    (i : Running text cells symbols inputs known table₀ count P used table M at v w) (p : Patterning text cells symbols inputs known table₀ count (length P) used) where
+module _ {text cells symbols inputs : List ℕ} {known : ℕ} {table₀ : List ℕ} {many : ℕ} {P : List ℕ} {used : ℕ} {table M : List ℕ} {at v w : ℕ}
+    (i : Running text cells symbols inputs known table₀ many P used table M at v w) (p : Patterning text cells symbols inputs known table₀ many (length P) used) where
   -- for the theory that is asked for
   pub here : Premising text cells (symbolic p.held.0) p.so_far p.zs P used table M at v w
   here = i.goes (symbolic p.held.0) p.so_far p.zs p.held.1 p.reads p.holds
 
-  module _ {item : Item} {a b : ℕ} (h : at < length cells) (e : item ≡ item_at cells at) (g : item ≡ Part a b) where
-    pub next_here : Next text cells at here.left a b
-    next_here = next_list here.walk h e g
+  module _ {words part : List ℕ} {next : Each} (h : Here cells words at next) (l : Listed words part) where
+    next_here : Next text cells here.left part next.at
+    next_here = next_list here.walk h l
 
-    pub judging : Patterning text (take (b - a) (drop a cells)) symbols inputs known table v (length M) w
+    pub judging : Patterning text part symbols inputs known table v (length M) w
     judging =
         record {
           zs = next_here.inner;
@@ -151,22 +168,22 @@ module _ {text cells symbols inputs : List ℕ} {known : ℕ} {table₀ : List �
         }
 
     pub running_stops : (M' : List ℕ) (x : Question) → ((T : Theory) (R : Reading) (zs : Sexps) → SymbolsHeld text symbols inputs known T.symbols → ReadSoFar text table v w R →
-        Holds text (take (b - a) (drop a cells)) zs → Stopped M M' w (predicated T zs R) (number_of x) (detail_of x)) →
-        (T : Theory) (R : Reading) (zs : Sexps) → SymbolsHeld text symbols inputs known T.symbols → ReadSoFar text table₀ count used R →
+        Holds text part zs → Stopped M M' w (predicated T zs R) (number_of x) (detail_of x)) →
+        (T : Theory) (R : Reading) (zs : Sexps) → SymbolsHeld text symbols inputs known T.symbols → ReadSoFar text table₀ many used R →
         Holds text cells zs → Stopped P M' used (judgments T zs R) (number_of x) (detail_of x)
     running_stops M' x q T R zs s y k =
         let o = i.goes T R zs s y k in
-        let f = next_list o.walk h e g in
+        let f = next_list o.walk h l in
         going_stops o p.long f x (q T o.now f.inner s o.reads f.holds)
 
     pub running_on : {table' : List ℕ} {n : ℕ} {M' : List ℕ} {m : ℕ} → ((T : Theory) (R : Reading) (zs : Sexps) → SymbolsHeld text symbols inputs known T.symbols → ReadSoFar text table v w R →
-        Holds text (take (b - a) (drop a cells)) zs → Written prefix text table' M M' w (predicated T zs R) n m) →
-        Running text cells symbols inputs known table₀ count P used table' M' b n m
+        Holds text part zs → Written prefix text table' M M' w (predicated T zs R) n m) →
+        Running text cells symbols inputs known table₀ many P used table' M' next.at n m
     running_on q =
         record {
           goes = λ T R zs s y k.
               let o = i.goes T R zs s y k in
-              let f = next_list o.walk h e g in
+              let f = next_list o.walk h l in
               going_on o p.long f (q T o.now f.inner s o.reads f.holds);
         }
 

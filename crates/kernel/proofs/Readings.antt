@@ -1,6 +1,6 @@
 -- The entries of the tables of sorts and symbols, as the readers read them. Assumes nothing.
 use mathlib.Core.Path.{◌≡◌, refl, sym, ap, ◌∙◌}
-use Prim.Native.Nat.{ℕ, suc, ◌+◌, ◌*◌, ◌/◌, ◌^◌, ◌<◌, ◌≤◌}
+use Prim.Native.Nat.{ℕ, suc, ◌+◌, ◌-◌, ◌*◌, ◌/◌, ◌^◌, ◌<◌, ◌≤◌}
 use mathlib.Core.Bool.{Bool, true, false}
 use Rattle.std.specs.Prelude.{Some as some, None as nothing, Option, count_by, cond}
 use Rattle.std.specs.Simd.{first_chunks}
@@ -10,23 +10,22 @@ use native.Mathlib.Omega.{arith}
 use native.Mathlib.Numerals.{add-one}
 use lib.Dec.{eqb}
 use Rattle.std.proofs.Common.{take_at}
-use lib.ListN.{length, take, get_or}
-use borrow.Author.Tests.{eq-eqb, ne_eqb}
+use lib.ListN.{length, take, drop, get_or, length-drop}
+use lib.Seq.{ext_get_or, get_or-take, get_or-drop, length-take-le}
 use Rattle.rules.specs.Limits.{SORTS, ARGUMENTS}
 use Rattle.rules.specs.Text.{same}
 use Rattle.rules.specs.Find.{first, every}
-use Rattle.rules.specs.Laws.Find.{next, first_next, first_here, first_later, first_over}
+use Rattle.rules.specs.Laws.Find.{next, first_next}
 use Rattle.rules.specs.Sexp.{Name}
-use Rattle.rules.specs.Theory.{Theory, Symbol, no_symbol, output, constructors, sort_named, constructor_named, predicate_named}
+use Rattle.rules.specs.Theory.{Theory, Symbol, no_symbol, inputs, constructors, sort_named, constructor_named, predicate_named}
+use Rattle.rules.specs.Laws.Theory.{all_at}
 use Rattle.sexp.specs.NameRows.{NameRows, SomeNames}
 use Rattle.kernel.specs.declared.names.Kind.TheVariants.{Constructor, Predicate}
 use Rattle.kernel.specs.Named.{of_kind, SymbolRows, SomeSymbols, called}
 use Rattle.kernel.specs.Held.{SortsHeld, SomeSorts, SymbolsHeld}
-use Rattle.kernel.specs.Readers.{KnownSymbol, KnownInput, NamedSymbols, CountedSymbols}
-use Rattle.kernel.specs.Entries.{known_symbol}
-use Rattle.kernel.specs.Listing.{next_constructor}
+use Rattle.kernel.specs.Readers.{KnownSymbol, KnownInput, KnownInputs, NamedSymbols}
 use Rattle.rules.specs.TheoryTables.{name_cells, rows, symbol_row}
-use Rattle.kernel.specs.SignatureRows.{sorts_rows, sorts_few, symbols_rows, symbols_cells, symbols_few, input_place}
+use Rattle.kernel.specs.SignatureRows.{sorts_rows, sorts_few, symbols_rows, symbols_cells, symbols_few, input_place, argument_cell}
 use Rattle.sexp.specs.FoundLaws.{found_at, found_missing, found_inside}
 
 -- Symbols by number --------------------------------------------------------------------------------------------------------------
@@ -36,6 +35,24 @@ symbol_place k = omega (arith, k.known, symbols_few k.held.1, k.held.1.long)
 
 pub argument_place : {inputs : List ℕ} {c k : ℕ} → KnownInput inputs c k → ARGUMENTS * c + k < length inputs
 argument_place {inputs} {c} {k} a = input_place a.held.1 c k (omega (arith, a.known, a.held.1.many)) a.there
+
+-- all arguments
+module _ {ins : List ℕ} {c many : ℕ} (k : KnownInputs ins c many) where
+  pub inputs_place : ARGUMENTS * c + many ≤ length ins
+  inputs_place =
+      let h = k.held.1 in
+      let few = all_at k.held.0 c no_symbol h.few (omega (arith, k.known, h.many)) in
+      omega (arith, k.all, few, h.longs, symbols_few h, k.known)
+
+  pub inputs_cut : (T : Theory) {text symbols : List ℕ} {count : ℕ} → SymbolsHeld text symbols ins count T.symbols → c < count → many ≡ length (inputs T c) →
+      take (ARGUMENTS * c + many - ARGUMENTS * c) (drop (ARGUMENTS * c) ins) ≡ inputs T c
+  inputs_cut T h l e =
+      let g : ARGUMENTS * c + many - ARGUMENTS * c ≡ many = omega arith in
+      let long = length-take-le many (drop (ARGUMENTS * c) ins) (omega (arith, length-drop (ARGUMENTS * c) ins, inputs_place)) in
+      ap (λ (z : ℕ). take z (drop (ARGUMENTS * c) ins)) g
+      ∙ ext_get_or 0 (take many (drop (ARGUMENTS * c) ins)) (inputs T c) (long ∙ e)
+      (λ i m. get_or-take many (drop (ARGUMENTS * c) ins) i 0 (omega (arith, m, long)) ∙ get_or-drop (ARGUMENTS * c) ins i 0
+      ∙ argument_cell T h c l i (omega (arith, m, long, e)))
 
 -- Numbers by name ----------------------------------------------------------------------------------------------------------------
 
@@ -78,43 +95,6 @@ module _ (T : Theory) {text symbols ins : List ℕ} {count : ℕ} (h : SymbolsHe
       r ≡ (predicate_named T name)
   unfolding predicate_named of_kind
   predicate_is a = a T.symbols (symbols_rows h)
-
--- Constructors one after the other -----------------------------------------------------------------------------------------------
-
--- a search for a constructor of a sort that stands at a symbol
-pub record Scanning (symbols : List ℕ) (count sort from i : ℕ) : Type 0 where
-  pub counted : CountedSymbols symbols count
-  pub same : (T : Theory) (text inputs : List ℕ) → SymbolsHeld text symbols inputs count T.symbols → next_constructor T sort from ≡ next_constructor T sort i
-
-pub scanning_start : (symbols : List ℕ) (count sort from : ℕ) → CountedSymbols symbols count → Scanning symbols count sort from from
-scanning_start symbols count sort from s = record { counted = s; same = λ T text ins h. refl }
-
-module _ {symbols : List ℕ} {count sort from i : ℕ} (k : Scanning symbols count sort from i) where
-  pub scanning_known : i < count → KnownSymbol symbols i
-  scanning_known l = known_symbol k.counted.1.1.1 l
-
-  module _ (l : i < count) (r : ℕ)
-      (a : (T : Theory) (text inputs : List ℕ) (n : ℕ) → SymbolsHeld text symbols inputs n T.symbols → i < n → r ≡ output T i) where
-    pub scanning_here : r ≡ sort → (T : Theory) (text ins : List ℕ) → SymbolsHeld text symbols ins count T.symbols → some i ≡ (next_constructor T sort from)
-    unfolding next_constructor output
-    scanning_here e T text ins h =
-        (sym
-        (k.same T text ins h
-        ∙ first_here (λ (c : Symbol). eqb c.output sort) T.symbols i no_symbol (omega (arith, l, h.many)) (eq-eqb _ _ (sym (a T text ins count h l) ∙ e))))
-
-    pub scanning_on : (r ≡ sort → ⊥) → Scanning symbols count sort from (i + 1)
-    unfolding next_constructor output
-    scanning_on e =
-        record {
-          counted = k.counted;
-          same = λ T text ins h. k.same T text ins h
-              ∙ first_later (λ (c : Symbol). eqb c.output sort) T.symbols i no_symbol (omega (arith, l, h.many)) (ne_eqb _ _ (λ q. e (a T text ins count h l ∙ q)));
-        }
-
-  pub scanning_over : count ≤ i → (T : Theory) (text ins : List ℕ) → SymbolsHeld text symbols ins count T.symbols → nothing ≡ (next_constructor T sort from)
-  unfolding next_constructor
-  scanning_over l T text ins h =
-      (sym (k.same T text ins h ∙ first_over (λ (c : Symbol). eqb c.output sort) T.symbols i (omega (arith, l, h.many))))
 
 -- How many there are ----------------------------------------------------------------------------------------------------------------
 

@@ -1,9 +1,9 @@
 -- The premises and the conclusion of a rule, one behind the other: what their reader answers. Assumes nothing.
 use mathlib.Core.Path.{◌≡◌, refl, sym, ap, ◌∙◌}
-use Prim.Native.Nat.{ℕ, ◌-◌, ◌<◌, ◌≤◌}
+use Prim.Native.Nat.{ℕ, ◌≤◌}
 use mathlib.Core.List.{List, ◌++◌}
 use native.Mathlib.Omega.{arith}
-use lib.ListN.{length, take, drop}
+use lib.ListN.{length, take}
 use Rattle.rules.specs.Limits.{PATTERNS}
 use Rattle.rules.specs.Out.{Out, ok, then}
 use Rattle.rules.specs.Sexp.{Sexp, Sexps, item, count}
@@ -13,31 +13,22 @@ use Rattle.rules.specs.TheoryTables.{prefix, prefixes}
 use Rattle.rules.specs.Laws.Row.{append_assoc}
 use Rattle.rules.specs.Declare.{Reading, predicated, judgments, schema}
 use Rattle.rules.specs.Laws.PatternSteps.{schema_no_premises, schema_stopped, schema_no_conclusion, schema_asks}
-use Rattle.sexp.specs.Encode.{encodes}
-use Rattle.sexp.specs.Items.{item_of, place}
-use Rattle.sexp.specs.WalkLaws.{AtomIs, ListIs, nth_list}
-use Rattle.sexp.specs.declared.items.Item.{Item}
-use Rattle.sexp.specs.declared.items.Item.TheVariants.{List as Part}
-use Rattle.kernel.specs.Held.{Form}
+use Rattle.sexp.specs.WalkLaws.{AtomIs}
+use Rattle.sexp.specs.Each.{ListOf}
 use Rattle.kernel.specs.Reading.{Written, Stopped, Patterning}
 use Rattle.kernel.specs.HeldRules.{Beginning, SchemaWritten}
 use Rattle.kernel.proofs.Ruling.{judged_count}
 use Rattle.kernel.proofs.Trees.{kept_front, longer}
 
--- a list among the items of a form
-pub list_at : {text items : List ℕ} {n : ℕ} {r : Item} {a b : ℕ} (f : Form text items n) (k : ℕ) → k < n →
-    ((ys : Sexps) → items ≡ encodes ys → r ≡ item_of (place ys k) (item ys k)) → r ≡ Part a b → ListIs text items (item f.xs k) a b
-list_at f k l e g = nth_list f.holds k (e f.xs f.holds.cells) (omega (arith, l, f.many)) g
-
 -- What callees are given ---------------------------------------------------------------------------------------------------------
 
-module _ {text items symbols inputs row : List ℕ} {known used : ℕ} {n : ℕ} (P : List ℕ) (k : Beginning text items symbols inputs known row n (length P) used) {x : Sexp} {a b : ℕ}
-    (l : ListIs text items x a b) where
-  pub premising : Patterning text (take (b - a) (drop a items)) symbols inputs known row n (length P) used
+module _ {text items symbols inputs row : List ℕ} {known used : ℕ} {n : ℕ} (P : List ℕ) (k : Beginning text items symbols inputs known row n (length P) used) {x : Sexp} {part : List ℕ}
+    (l : ListOf text items x part) where
+  pub premising : Patterning text part symbols inputs known row n (length P) used
   premising = record { zs = l.items; holds = l.holds; held = k.held; so_far = k.so_far; reads = k.reads; short = k.form.short; long = k.long }
 
   pub concluding : {table M : List ℕ} {v m : ℕ} {given : Out Reading Trees} → Written prefixes text table P M used given v m →
-      Patterning text (take (b - a) (drop a items)) symbols inputs known table v (length M) m
+      Patterning text part symbols inputs known table v (length M) m
   concluding w =
       record { zs = l.items; holds = l.holds; held = k.held; so_far = w.now; reads = w.reads; short = k.form.short; long = w.long ∙ k.long }
 
@@ -54,7 +45,7 @@ module _ {text : List ℕ} (T : Theory) (R : Reading) (xs : Sexps) where
   pub schema_atom : {P : List ℕ} {used p : ℕ} → AtomIs text (item xs 2) p → Stopped P P used (schema T xs R) 11 0
   schema_atom {p = p} f = record { now = R; is = schema_no_premises R T xs p f.bytes f.is; words = refl; long = refl }
 
-  module _ {form : List ℕ} {a b : ℕ} (l : ListIs text form (item xs 2) a b) (used : ℕ) (P : List ℕ) where
+  module _ {form : List ℕ} {part : List ℕ} (l : ListOf text form (item xs 2) part) (used : ℕ) (P : List ℕ) where
     pub schema_stops : {M : List ℕ} {x d : ℕ} → Stopped P M used (judgments T l.items R) x d → Stopped P M used (schema T xs R) x d
     schema_stops {x = x} {d = d} w = record { now = w.now; is = schema_stopped R T xs l.items l.is x d w.now w.is; words = w.words; long = w.long }
 
@@ -71,7 +62,7 @@ module _ {text : List ℕ} (T : Theory) (R : Reading) (xs : Sexps) where
             long = w.long;
           }
 
-      module _ {c d : ℕ} (j : ListIs text form (item xs 3) c d) where
+      module _ {part' : List ℕ} (j : ListOf text form (item xs 3) part') where
         so_far : schema T xs R ≡ then (predicated T j.items w.now) (λ t W. ok (w.tree, t) W)
         so_far = schema_asks R T xs l.items l.is w.tree w.now w.is j.items j.is
 

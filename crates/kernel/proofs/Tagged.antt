@@ -1,12 +1,11 @@
 -- The tag of a declaration, and what each of the four declarations leaves in the tables. Assumes nothing.
 use mathlib.Core.Path.{◌≡◌, refl, sym, ap, ◌∙◌, subst}
-use Prim.Native.Nat.{ℕ, ◌<◌}
+use Prim.Native.Nat.{ℕ}
 use mathlib.Core.Bool.{Bool, true, false, ◌&&◌}
 use Rattle.std.specs.Prelude.{Option, Some as some, None as nothing, Result, Err}
 use mathlib.Core.List.{List, [], ◌∷◌, append-nil}
 use native.Mathlib.Omega.{arith}
 use lib.Dec.{leb}
-use lib.ListN.{length}
 use borrow.Author.Tests.{leb-true}
 use Rattle.rules.specs.Out.{refuse, then, found}
 use Rattle.rules.specs.Sexp.{Sexp, Sexps, atom, list, nil, cons, count, item, name, items}
@@ -16,12 +15,10 @@ use Rattle.rules.specs.Text.{same}
 use Rattle.rules.specs.Declare.{add_sort, add_ctor, add_pred, add_rule, declare_as, declare}
 use Rattle.sexp.specs.Never.{never}
 use Rattle.sexp.specs.Encode.{encode}
-use Rattle.sexp.specs.Items.{Holds, item_at}
-use Rattle.sexp.specs.ItemLaws.{some_cells}
-use Rattle.sexp.specs.WalkLaws.{ListIs, walk_start, walk_atom, walk_list}
+use Rattle.sexp.specs.Items.{Holds}
+use Rattle.sexp.specs.WalkLaws.{AtomIs}
+use Rattle.sexp.specs.Each.{ListOf}
 use Rattle.sexp.specs.TagTable.{declaration_answer}
-use Rattle.sexp.specs.declared.items.Item.{Item}
-use Rattle.sexp.specs.declared.items.Item.TheVariants.{Atom, List as Part}
 use Rattle.sexp.specs.declared.tags.Declaration.{Declaration as Tag}
 use Rattle.sexp.specs.declared.tags.Declaration.TheVariants.{Sort, Ctor, Pred, Rule}
 use Rattle.kernel.specs.Held.{Form}
@@ -169,20 +166,13 @@ module _ (text : List ℕ) (t : TheoryLists) (n : Counts) (T : Theory) (xs : Sex
 
 -- The answers of `declare` ---------------------------------------------------------------------------------------------------------
 
-pub form_some : {text cells : List ℕ} {x : Sexp} → Formed text cells x → 0 < length cells
-form_some {x = x} k = omega (arith, ap length k.encoded, some_cells x)
-
-module _ {text cells : List ℕ} {x : Sexp} (k : Formed text cells x) {r : Item} (e : r ≡ item_at cells 0) where
+module _ {text cells : List ℕ} {x : Sexp} (k : Formed text cells x) where
   pub alone : Holds text cells (cons x nil)
   unfolding encode
   alone = record { cells = k.encoded ∙ sym (append-nil (encode x)); spelt = (k.spelt, tt) }
 
-  pub form_atom_lem : {p : ℕ} → r ≡ Atom p → (T : Theory) → declare x T ≡ refuse 10 0 T
-  form_atom_lem {p} f T = let a = walk_atom (walk_start alone) e f in ap (λ y. declare y T) a.is ∙ declare_atom p a.bytes T
+  pub form_atom_lem : {p : ℕ} → AtomIs text x p → (T : Theory) → declare x T ≡ refuse 10 0 T
+  form_atom_lem {p} a T = ap (λ y. declare y T) a.is ∙ declare_atom p a.bytes T
 
-  module _ {a b : ℕ} (f : r ≡ Part a b) where
-    pub form_list : ListIs text cells x a b
-    form_list = walk_list (walk_start alone) e f
-
-    pub form_declares : (T : Theory) → declare x T ≡ taken (tagged form_list.items) form_list.items T
-    form_declares T = ap (λ y. declare y T) form_list.is ∙ declare_list form_list.items T
+  pub form_declares : {part : List ℕ} (l : ListOf text cells x part) (T : Theory) → declare x T ≡ taken (tagged l.items) l.items T
+  form_declares l T = ap (λ y. declare y T) l.is ∙ declare_list l.items T

@@ -26,6 +26,15 @@ pub record KnownInput (inputs : List ℕ) (c k : ℕ) : Type 0 where
   pub known : c < count
   pub there : k < length (get_or held.0 c no_symbol).inputs
 
+-- symbol c is there, and takes so many arguments
+pub record KnownInputs (inputs : List ℕ) (c many : ℕ) : Type 0 where
+  pub text : List ℕ
+  pub symbols : List ℕ
+  pub count : ℕ
+  pub held : SomeSymbolsHeld text symbols inputs count
+  pub known : c < count
+  pub all : many ≡ length (get_or held.0 c no_symbol).inputs
+
 -- so many symbols, with names in the text
 abbrev pub NamedSymbols : List ℕ → List ℕ → ℕ → Type 0
 NamedSymbols text symbols count = (inputs : List ℕ) × SomeSymbolsHeld text symbols inputs count

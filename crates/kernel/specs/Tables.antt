@@ -4,12 +4,17 @@ use Rattle.std.specs.Borrow.{Bor}
 use Rattle.questions.specs.declared.Question.{Question}
 use Rattle.rules.specs.Out.{Out}
 use Rattle.rules.specs.Theory.{Theory}
+use Rattle.kernel.specs.declared.names.SortTable.{SortTable}
 use Rattle.kernel.specs.declared.names.SymbolTable.{SymbolTable}
 use Rattle.kernel.specs.declared.tables.Tables.{Tables}
 use Rattle.kernel.specs.Parsed.{TheoryLists, theory_lists, TheoryHeld, DeclaredAs}
 
 abbrev pub lists_of : Tables → TheoryLists
 lists_of t = theory_lists t.sorts.now t.symbols.now t.inputs.now t.rules.now t.vars.now t.patterns.now
+
+-- the sorts of a theory as they are read, with names in a text
+abbrev pub sorts_of : Bor (List ℕ) → Tables → SortTable
+sorts_of text t = record { text = text; rows = record { ref_ptr = t.sorts.ref_ptr; now = t.sorts.now }; count = t.held.sorts }
 
 -- the symbols of a theory as they are read, with names in a text
 abbrev pub known_of : Bor (List ℕ) → Tables → SymbolTable

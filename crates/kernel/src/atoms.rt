@@ -1,4 +1,4 @@
-// Atoms of the text: whether one is marked, and its place as the two cells of a name.
+// Whether an atom of the text is marked, and a span as two cells of a table.
 ghost use Rattle.std.specs.Prelude.{◌≡◌, ◌<◌, [], ◌∷◌, length, drop};
 ghost use Rattle.std.proofs.lemmas.List.Edits.{sets};
 ghost use Rattle.rules.specs.Lex.{letters};
@@ -15,11 +15,11 @@ pub fn marked(text: &[u8], start: usize) -> bool
     text[start] == b'?'
 }
 
-// The two cells of a part: of a name, or of a rule's words.
-pub fn put_name(table: &mut [u32], at: usize, name: Span)
-    requires { NameFits (length table.old) at name.from name.end }
-    ensures { table.new ≡ sets table.old at (name.from ∷ name.end ∷ []) }
+// The two cells of a span: of a name in a text, or of a rule's words; `cells::span_at` reads them.
+pub fn put_span(table: &mut [u32], at: usize, span: Span)
+    requires { NameFits (length table.old) at span.from span.end }
+    ensures { table.new ≡ sets table.old at (span.from ∷ span.end ∷ []) }
 {
-    table[at] = name.from as u32;
-    table[at + 1] = name.end as u32;
+    table[at] = span.from as u32;
+    table[at + 1] = span.end as u32;
 }

@@ -15,7 +15,6 @@ use crate::symbols::add_sort;
 use crate::tables::{Counts, Tables};
 use questions::Question;
 use sexp::items;
-use sexp::items::Item;
 use sexp::tags::{Declaration, theory_tag};
 
 // The tag of a form, by its items.
@@ -57,9 +56,7 @@ fn declare_items(text: &[u8], items: &[u32], tables: &mut Tables<'_>) -> Result<
     ensures declared { (T : Theory) (xs : Sexps) → Holding text.now tables.old T → Holds text.now items.now xs →
         Leaving text.now tables.new T (taken (tagged xs) xs T) result }
 {
-    let Some(tag) = tag_of(text, items) else {
-        return Err(Question::Declaration);
-    };
+    let tag = tag_of(text, items).ok_or(Question::Declaration)?;
     match tag {
         Declaration::Sort => add_sort(text, items, tables),
         Declaration::Ctor => add_ctor(text, items, tables),
@@ -75,8 +72,8 @@ pub fn declare(text: &[u8], cells: &[u32], tables: &mut Tables<'_>) -> Result<()
     ensures declared { (T : Theory) (x : Sexp) → Holding text.now tables.old T → Formed text.now cells.now x →
         Leaving text.now tables.new T (declare x T) result }
 {
-    let Item::List(a, b) = items::item_at(cells, 0) else {
+    let Some(inner) = items::list(cells, 0) else {
         return Err(Question::Declaration);
     };
-    declare_items(text, &cells[a..b], tables)
+    declare_items(text, inner, tables)
 }

@@ -8,7 +8,6 @@ ghost use Rattle.sexp.specs.Items.{Holds};
 ghost use Rattle.kernel.specs.Reading.{SameTables, SameVars, Knows, ReadTo, PartRead, ListOpened, OpeningAt, PartAt, Placed, ArgumentsAt};
 
 use crate::patterns::RuleReader;
-use crate::readers;
 use questions::Question;
 use sexp::items;
 use sexp::items::Item;
@@ -23,9 +22,7 @@ impl RuleReader<'_, '_> {
             Holds self.old.known.text.now cells.now zs →
             ListOpened self.old self.new cells.now T R zs (pattern T (list zs) sort R) result }
     {
-        let Some(name) = items::head(self.known.text, cells) else {
-            return Err(Question::Declared);
-        };
+        let name = items::head(self.known.text, cells).ok_or(Question::Declared)?;
         let many = items::count(cells);
         if many < 2 {
             return Err(Question::Signature);
@@ -43,13 +40,9 @@ impl RuleReader<'_, '_> {
             ListOpened self.old self.new cells.now T R zs (predicated T zs R) result }
     {
         let known = self.known;
-        let Some(name) = items::head(known.text, cells) else {
-            return Err(Question::Declared);
-        };
-        let Some(p) = known.predicate_named(name) else {
-            return Err(Question::Declared);
-        };
-        let arity = readers::arity(known.rows, p);
+        let name = items::head(known.text, cells).ok_or(Question::Declared)?;
+        let p = known.predicate_named(name).ok_or(Question::Declared)?;
+        let arity = known.arity(p);
         let many = items::count(cells);
         if arity + 1 != many {
             return Err(Question::Signature);
@@ -58,7 +51,7 @@ impl RuleReader<'_, '_> {
         Ok(p)
     }
 
-    // The term of a sort that the first item spells.
+    // The term of a sort that the first item spells. An atom is wanted by its place too, so that with `items::list` the item would be looked at twice.
     #[cycle(arguments_term)]
     fn term(&mut self, cells: &[u32], sort: usize) -> Result<(), Question>
         requires part { PartAt self.old cells.now }
@@ -87,8 +80,9 @@ impl RuleReader<'_, '_> {
             Holds self.old.known.text.now cells.now zs → Placed T.symbols c 0 zs →
             PartRead prefixes self.old self.new (patterns_of T zs (inputs_of T c) R) result }
     {
+        let known = self.known;
         for (k, item) in items::all(cells).enumerate() {
-            let sort = readers::input(self.known.inputs, c, k);
+            let sort = known.input(c, k);
             self.term(item, sort)?;
         }
         Ok(())

@@ -1,4 +1,4 @@
-// From the text of a theory to its tables.
+// From the text of a theory to its tables, and how these are read: by name and by number.
 #![tactic(auto)]
 
 pub mod atoms;
@@ -8,7 +8,7 @@ pub mod names;
 pub mod parse;
 mod patterns;
 mod premises;
-pub mod readers;
+mod readers;
 mod rule;
 pub mod rule_readers;
 mod signatures;

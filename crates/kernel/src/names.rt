@@ -1,14 +1,14 @@
-// Looking symbols up: the first predicate, or the first constructor, whose name has given bytes.
+// Looking names up: the sort, the first predicate or the first constructor whose name has given bytes.
 ghost use Rattle.std.specs.Prelude.{◌≡◌, ℕ, List};
 ghost use Rattle.rules.specs.Text.{same};
 ghost use Rattle.rules.specs.Find.{first};
-ghost use Rattle.rules.specs.Theory.{Theory, Symbol, constructor_named, predicate_named};
-ghost use Rattle.kernel.specs.Held.{SymbolsHeld};
+ghost use Rattle.rules.specs.Theory.{Theory, Symbol, sort_named, constructor_named, predicate_named};
+ghost use Rattle.kernel.specs.Held.{SortsHeld, SomeSorts, SymbolsHeld};
 ghost use Rattle.kernel.specs.Readers.{NamedSymbols};
 ghost use Rattle.kernel.specs.Named.{SymbolAt, SomeSymbol, SymbolRows, SomeSymbols, kind_of, called};
 
 use cells::span_at;
-use sexp::names::same;
+use sexp::names::{named, same};
 
 #[derive(Clone, Copy, Debug, PartialEq, Eq)]
 pub enum Kind {
@@ -28,7 +28,27 @@ impl Kind {
     }
 }
 
-// The symbols that are declared, and the text that spells their names.
+// The sorts that are declared, and the text that spells their names.
+#[derive(Clone, Copy)]
+pub struct SortTable<'a> {
+    pub text: &'a [u8],
+    pub rows: &'a [u32],
+    pub count: usize,
+}
+
+impl SortTable<'_> {
+    // The sort with these bytes for a name; sorts are numbered from 1.
+    pub fn named(&self, name: &[u8]) -> Option<usize>
+        requires { SomeSorts self.now.text.now self.now.rows.now self.now.count }
+        ensures { (T : Theory) → SortsHeld self.now.text.now self.now.rows.now self.now.count T.sorts → result ≡ sort_named T name.now }
+    {
+        let i = named(self.text, self.rows, 2, 0, self.count, name)?;
+        Some(i + 1)
+    }
+}
+
+// The symbols that are declared, and the text that spells their names. That the rows hold symbols (`NamedSymbols`) is no invariant: `known` and
+// `symbol_table`, which make the struct and ask nothing, would have to ask it.
 #[derive(Clone, Copy)]
 pub struct SymbolTable<'a> {
     pub text: &'a [u8],
@@ -44,11 +64,7 @@ impl SymbolTable<'_> {
         ensures { (s : Symbol) → SymbolAt self.now.text.now self.now.rows.now row s → result ≡ called kind name.now s }
     {
         let first = 4 * row;
-        if kind.has(self.rows[first]) {
-            let span = span_at(self.rows, first + 2);
-            return same(&self.text[span.from..span.end], name);
-        }
-        false
+        kind.has(self.rows[first]) && same(span_at(self.rows, first + 2).of(self.text), name)
     }
 
     // The number of the first symbol of the kind whose name has these bytes.

@@ -12,9 +12,8 @@ ghost use Rattle.kernel.specs.Reading.{WordFits, SameTables, SameVars, SameWords
 ghost use Rattle.sexp.specs.AtomText.{Spans};
 ghost use Rattle.sexp.specs.NameRows.{NameRows, SomeNames};
 
-use crate::atoms::{marked, put_name};
+use crate::atoms::{marked, put_span};
 use crate::names::SymbolTable;
-use crate::readers;
 use cells::Span;
 use questions::{Question, Row};
 use sexp::lex;
@@ -67,7 +66,7 @@ impl RuleReader<'_, '_> {
     {
         let text = self.known.text;
         let count = self.count;
-        if let Some(i) = self.numbered(&text[name.from..name.end]) {
+        if let Some(i) = self.numbered(name.of(text)) {
             let had = self.vars[3 * i] as usize;
             if had == sort {
                 return Ok(i);
@@ -79,7 +78,7 @@ impl RuleReader<'_, '_> {
         }
         let at = 3 * count;
         self.vars[at] = sort as u32;
-        put_name(self.vars, at + 1, name);
+        put_span(self.vars, at + 1, name);
         self.count = count + 1;
         Ok(count)
     }
@@ -112,14 +111,12 @@ impl RuleReader<'_, '_> {
             (head T sort arity name.now R) result }
     {
         let known = self.known;
-        let Some(c) = known.constructor_named(name) else {
-            return Err(Question::Declared);
-        };
-        let output = readers::output(known.rows, c);
+        let c = known.constructor_named(name).ok_or(Question::Declared)?;
+        let output = known.output(c);
         if output != sort {
             return Err(Question::Signature);
         }
-        let many = readers::arity(known.rows, c);
+        let many = known.arity(c);
         if many != arity {
             return Err(Question::Signature);
         }
@@ -139,8 +136,7 @@ impl RuleReader<'_, '_> {
         if marked(text, start) {
             return self.variable(start, sort);
         }
-        let end = lex::atom_end(text, start);
-        self.constructor(&text[start..end], sort, 0)?;
+        self.constructor(lex::atom(text, start), sort, 0)?;
         Ok(())
     }
 }

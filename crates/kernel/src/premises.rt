@@ -9,7 +9,6 @@ ghost use Rattle.kernel.specs.Reading.{SameTables, Knows, ReadTo, PartRead, Part
 use crate::patterns::RuleReader;
 use questions::Question;
 use sexp::items;
-use sexp::items::Item;
 
 impl RuleReader<'_, '_> {
     pub fn premises(&mut self, cells: &[u32]) -> Result<(), Question>
@@ -20,10 +19,10 @@ impl RuleReader<'_, '_> {
             PartRead prefixes self.old self.new (judgments T zs R) result }
     {
         for item in items::all(cells) {
-            let Item::List(a, b) = items::item_at(item, 0) else {
+            let Some(inner) = items::list(item, 0) else {
                 return Err(Question::Declared);
             };
-            self.judgment(&item[a..b])?;
+            self.judgment(inner)?;
         }
         Ok(())
     }

@@ -1,73 +1,80 @@
-// Reading the tables of sorts and symbols: a symbol's signature by its number, a sort's number by its name, and the constructors of a sort
-// one after the other, or how many.
-ghost use Rattle.std.specs.Prelude.{◌≡◌, ℕ, ◌^◌, ◌<◌, List, length, get_or};
-ghost use Rattle.rules.specs.Theory.{Theory, inputs as inputs_of, output as output_of, constructors as constructors_of, sort_named};
-ghost use Rattle.kernel.specs.Held.{SortsHeld, SomeSorts, SymbolsHeld};
-ghost use Rattle.kernel.specs.Readers.{KnownSymbol, KnownInput, CountedSymbols};
+// Reading the table of symbols: a symbol's signature by its number, and the constructors of a sort one after the other, or how many.
+// Here and in `rule_readers` a cell is read by its place, `4 * c + 1`, and not off rows `[[u32; 4]]`: the tables are C's cells, which are written too, and behind
+// `as_chunks_mut` nothing is known of what was written (`tabled` tried it). `arity` by `as_chunks::<4>()` was tried: it proves, with a law more, and each
+// reader would cut the rows anew before it reads one cell, which is no plainer.
+ghost use Rattle.std.specs.Prelude.{◌≡◌, ℕ, ◌*◌, ◌^◌, ◌<◌, List, eqb, length, get_or};
+ghost use Rattle.rules.specs.Theory.{Theory, inputs as inputs_of, output as output_of, constructors as constructors_of};
+ghost use Rattle.kernel.specs.Held.{SymbolsHeld};
+ghost use Rattle.kernel.specs.Readers.{KnownSymbol, KnownInput, KnownInputs, CountedSymbols};
 ghost use Rattle.kernel.specs.Listing.{next_constructor};
 
-use sexp::names::named;
+use crate::names::SymbolTable;
 
-// How many arguments symbol c takes; `arity_of` of `terms` asks the same of symbols without a theory, this one speaks of the theory.
-pub fn arity(symbols: &[u32], c: usize) -> usize
-    requires { KnownSymbol symbols.now c }
-    ensures { (T : Theory) (text inputs : List ℕ) (count : ℕ) → SymbolsHeld text symbols.now inputs count T.symbols → c < count →
-        result ≡ length (inputs_of T c) }
-{
-    symbols[4 * c + 1] as usize
-}
-
-// The sort of the terms of constructor c; 0 where c is a predicate. No `Option`: 0 is the definition's own number for no sort (they begin at 1),
-// and who asks compares it with a sort.
-pub fn output(symbols: &[u32], c: usize) -> usize
-    requires { KnownSymbol symbols.now c }
-    ensures { (T : Theory) (text inputs : List ℕ) (count : ℕ) → SymbolsHeld text symbols.now inputs count T.symbols → c < count →
-        result ≡ output_of T c }
-{
-    symbols[4 * c] as usize
-}
-
-// The sort of argument k of symbol c.
-pub fn input(inputs: &[u32], c: usize, k: usize) -> usize
-    requires { KnownInput inputs.now c k }
-    ensures small { result < 2 ^ 32 }
-    ensures sort { (T : Theory) (text symbols : List ℕ) (count : ℕ) → SymbolsHeld text symbols inputs.now count T.symbols → c < count →
-        k < length (inputs_of T c) → result ≡ get_or (inputs_of T c) k 0 }
-{
-    inputs[rules::ARGUMENTS * c + k] as usize
-}
-
-// The sort with these bytes for a name; sorts are numbered from 1.
-pub fn sort_named(text: &[u8], sorts: &[u32], count: usize, name: &[u8]) -> Option<usize>
-    requires { SomeSorts text.now sorts.now count }
-    ensures { (T : Theory) → SortsHeld text.now sorts.now count T.sorts → result ≡ sort_named T name.now }
-{
-    let i = named(text, sorts, 2, 0, count, name)?;
-    Some(i + 1)
-}
-
-// The first constructor of that sort whose number is `from` or greater.
-pub fn next_constructor(symbols: &[u32], count: usize, sort: usize, from: usize) -> Option<usize>
-    requires { CountedSymbols symbols.now count }
-    ensures { (T : Theory) (text inputs : List ℕ) → SymbolsHeld text symbols.now inputs count T.symbols →
-        result ≡ next_constructor T sort from }
-{
-    // a `for`: tried with `find`, whose closure compares what a call answers: the proof does not close, since it is handed nothing of that call
-    for i in from..count {
-        if output(symbols, i) == sort {
-            return Some(i);
-        }
+impl<'a> SymbolTable<'a> {
+    // How many arguments symbol c takes; `arity_of` of `terms` asks the same of symbols without a theory, this one speaks of the theory.
+    pub fn arity(&self, c: usize) -> usize
+        requires { KnownSymbol self.now.rows.now c }
+        ensures { (T : Theory) (text inputs : List ℕ) (count : ℕ) → SymbolsHeld text self.now.rows.now inputs count T.symbols → c < count →
+            result ≡ length (inputs_of T c) }
+    {
+        self.rows[4 * c + 1] as usize
     }
-    None
-}
 
-// How many constructors that sort has.
-pub fn constructors(symbols: &[u32], count: usize, sort: usize) -> usize
-    requires { CountedSymbols symbols.now count }
-    ensures { (T : Theory) (text inputs : List ℕ) → SymbolsHeld text symbols.now inputs count T.symbols →
-        result ≡ length (constructors_of T sort) }
-{
-    // a row is four cells, the output first
-    let (rows, _) = symbols[..4 * count].as_chunks::<4>();
-    rows.iter().filter(|row| row[0] as usize == sort).count()
+    // The sort of the terms of constructor c; 0 where c is a predicate. No `Option`: 0 is the definition's own number for no sort (they begin at 1),
+    // and who asks compares it with a sort.
+    pub fn output(&self, c: usize) -> usize
+        requires { KnownSymbol self.now.rows.now c }
+        ensures { (T : Theory) (text inputs : List ℕ) (count : ℕ) → SymbolsHeld text self.now.rows.now inputs count T.symbols → c < count →
+            result ≡ output_of T c }
+    {
+        self.rows[4 * c] as usize
+    }
+
+    // The sort of argument k of symbol c.
+    pub fn input(&self, c: usize, k: usize) -> usize
+        requires { KnownInput self.now.inputs.now c k }
+        ensures small { result < 2 ^ 32 }
+        ensures sort { (T : Theory) (text symbols : List ℕ) (count : ℕ) → SymbolsHeld text symbols self.now.inputs.now count T.symbols → c < count →
+            k < length (inputs_of T c) → result ≡ get_or (inputs_of T c) k 0 }
+    {
+        self.inputs[rules::ARGUMENTS * c + k] as usize
+    }
+
+    // The sorts of all arguments of symbol c; `many` is how many it takes.
+    pub fn inputs(&self, c: usize, many: usize) -> &'a [u32]
+        requires { KnownInputs self.now.inputs.now c many }
+        ensures { (T : Theory) (text symbols : List ℕ) (count : ℕ) → SymbolsHeld text symbols self.now.inputs.now count T.symbols → c < count →
+            many ≡ length (inputs_of T c) → result.now ≡ inputs_of T c }
+    {
+        let from = rules::ARGUMENTS * c;
+        &self.inputs[from..from + many]
+    }
+
+    // Whether the terms of symbol s are of that sort.
+    fn gives(&self, s: usize, sort: usize) -> bool
+        requires { 4 * s < length self.now.rows.now }
+        ensures { result ≡ eqb (get_or self.now.rows.now (4 * s) 0) sort }
+    {
+        self.rows[4 * s] as usize == sort
+    }
+
+    // The first constructor of that sort whose number is `from` or greater. No iterator: `induct_cases` goes over items, and takes a constructor for each.
+    pub fn next_constructor(&self, sort: usize, from: usize) -> Option<usize>
+        requires { CountedSymbols self.now.rows.now self.now.count }
+        ensures { (T : Theory) (text inputs : List ℕ) → SymbolsHeld text self.now.rows.now inputs self.now.count T.symbols →
+            result ≡ next_constructor T sort from }
+    {
+        (from..self.count).find(|c| self.gives(*c, sort))
+    }
+
+    // How many constructors that sort has.
+    pub fn constructors(&self, sort: usize) -> usize
+        requires { CountedSymbols self.now.rows.now self.now.count }
+        ensures { (T : Theory) (text inputs : List ℕ) → SymbolsHeld text self.now.rows.now inputs self.now.count T.symbols →
+            result ≡ length (constructors_of T sort) }
+    {
+        // a row is four cells, the output first
+        let (rows, _) = self.rows[..4 * self.count].as_chunks::<4>();
+        rows.iter().filter(|row| row[0] as usize == sort).count()
+    }
 }

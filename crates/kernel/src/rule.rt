@@ -8,7 +8,7 @@ ghost use Rattle.kernel.specs.Held.{Form, SymbolsHeld, SomeSymbolsHeld};
 ghost use Rattle.kernel.specs.Reading.{SameTables, Knows, ReadTo, ReadSoFar};
 ghost use Rattle.kernel.specs.HeldRules.{Beginning, BeginningAt, SchemaRead, SchemaPart, RulesHeld, SomeRules, RuleFits, RuleIs, RulePut, RuleAdded};
 
-use crate::atoms::put_name;
+use crate::atoms::put_span;
 use crate::names::SymbolTable;
 use crate::patterns::RuleReader;
 use crate::symbols::proper_at;
@@ -16,7 +16,6 @@ use crate::tables::Counts;
 use cells::{Span, write};
 use questions::{Question, Row};
 use sexp::items;
-use sexp::items::Item;
 use sexp::names::named;
 
 impl RuleReader<'_, '_> {
@@ -28,15 +27,14 @@ impl RuleReader<'_, '_> {
             Holds self.old.known.text.now form.now xs → 4 ≡ items xs →
             SchemaPart self.old self.new (schema T xs R) result }
     {
-        let Item::List(a, b) = items::nth(form, 2) else {
+        let Some(premises) = items::list(form, 2) else {
             return Err(Question::Declared);
         };
-        let premises = &form[a..b];
         self.premises(premises)?;
-        let Item::List(a, b) = items::nth(form, 3) else {
+        let Some(conclusion) = items::list(form, 3) else {
             return Err(Question::Declared);
         };
-        self.judgment(&form[a..b])?;
+        self.judgment(conclusion)?;
         Ok(items::count(premises))
     }
 }
@@ -49,7 +47,7 @@ pub struct RuleSize {
     pub words: usize,
 }
 
-// The same for an empty row and the words of the rules before.
+// What `schema` reads, into an empty row and behind the words of the rules before.
 fn read_rule(
     known: &SymbolTable<'_>,
     form: &[u32],
@@ -103,10 +101,10 @@ fn store(
         return Err(Row::Rules);
     }
     let at = 6 * count;
-    put_name(rules, at, row.name);
+    put_span(rules, at, row.name);
     rules[at + 2] = row.variables as u32;
     rules[at + 3] = row.premises as u32;
-    put_name(rules, at + 4, row.words);
+    put_span(rules, at + 4, row.words);
     write(&mut vars[3 * rules::RULEVARS * count..], names);
     Ok(())
 }
@@ -137,13 +135,13 @@ pub fn add_rule(
         inputs,
         count: held.symbols,
     };
-    // a row of its own with its length beside it, since the core allocates nothing
+    // as wide as a row of the table, and zero behind what is read, since all of it is written
     let mut row = [0u32; 3 * rules::RULEVARS];
     let size = read_rule(&known, form, &mut row, patterns, held.words)?;
     let name = proper_at(text, form, 1)?;
-    let None = named(text, rules, 6, 0, held.rules, &text[name.from..name.end]) else {
+    if named(text, rules, 6, 0, held.rules, name.of(text)).is_some() {
         return Err(Question::Declared);
-    };
+    }
     let entry = RuleRow {
         name,
         variables: size.variables,

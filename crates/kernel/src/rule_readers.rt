@@ -15,7 +15,9 @@ use cells::{Span, span_at};
 use sexp::names::named;
 use terms::patterns::Patterns;
 
-// The rows of rules, their variables, the words of their patterns.
+// The rows of rules, their variables, the words of their patterns. The symbols, the theory's text and the number of rules are handed to the methods that need
+// them: who calls these reads names too, by a `Reader` that has all three, and if they stood here as well, `step` and `invert` would have to ask that
+// both are the same. That rules and symbols fit (`FormedRules`) is no invariant either: whoever makes the struct of lent tables asks nothing.
 #[derive(Clone, Copy)]
 pub struct Rules<'a> {
     pub rows: &'a [u32],
@@ -108,7 +110,7 @@ impl<'a> Rules<'a> {
     }
 
     // Whether the conclusion of rule r is of that predicate.
-    fn concludes(&self, symbols: &[u32], r: usize, predicate: usize) -> bool
+    pub fn concludes(&self, symbols: &[u32], r: usize, predicate: usize) -> bool
         requires { KnownFormedRule symbols.now self.now.rows.now self.now.patterns.now r }
         ensures { (T : Theory) (count : ℕ) → FormedRules symbols.now self.now.rows.now self.now.patterns.now count T → r < count →
             result ≡ head_is predicate (rule T r).conclusion }
@@ -117,7 +119,8 @@ impl<'a> Rules<'a> {
         predicate == self.patterns[place] as usize
     }
 
-    // The first rule of that predicate whose number is `from` or greater; `count` is how many there are.
+    // The first rule of that predicate whose number is `from` or greater; `count` is how many there are. Who goes over all of them asks `concludes` of
+    // each number, so that nothing here calls it: public and promised.
     pub fn next_rule(
         &self,
         symbols: &[u32],

@@ -11,29 +11,22 @@ ghost use Rattle.kernel.specs.Spelled.{Reaching};
 ghost use Rattle.kernel.specs.Held.{Form, SortsHeld, SomeSorts, Gathering, ArgumentsRead, SymbolFits, SymbolIs};
 ghost use Rattle.kernel.specs.Tables.{SameTables, Holding, HoldingSome, Leaving};
 
-use crate::atoms::put_name;
-use crate::names::Kind;
-use crate::symbols::{proper_at, sort};
+use crate::atoms::put_span;
+use crate::names::{Kind, SortTable};
+use crate::symbols::proper_at;
 use crate::tables::Tables;
 use cells::{Span, write};
 use questions::{Question, Row};
 use sexp::items;
-use sexp::items::Item;
 
 // The sorts that the items name, into an empty row: how many.
-fn argument_sorts(
-    text: &[u8],
-    cells: &[u32],
-    sorts: &[u32],
-    known: usize,
-    row: &mut [u32],
-) -> Result<usize, Question>
-    requires { Gathering text.now cells.now sorts.now known (length row.old) }
-    ensures { (T : Theory) (xs : Sexps) → SortsHeld text.now sorts.now known T.sorts → Holds text.now cells.now xs →
+fn argument_sorts(sorts: &SortTable<'_>, cells: &[u32], row: &mut [u32]) -> Result<usize, Question>
+    requires { let s = sorts.now in Gathering s.text.now cells.now s.rows.now s.count (length row.old) }
+    ensures { (T : Theory) (xs : Sexps) → let s = sorts.now in SortsHeld s.text.now s.rows.now s.count T.sorts → Holds s.text.now cells.now xs →
         ArgumentsRead row.old row.new 0 (argument_sorts T xs 0 tt) result }
 {
     for (k, item) in items::all(cells).enumerate() {
-        let s = sort(text, items::item_at(item, 0), sorts, known)?;
+        let s = sorts.sort(items::item_at(item, 0))?;
         if k >= rules::ARGUMENTS {
             return Err(Question::Room(Row::Arguments));
         }
@@ -43,23 +36,17 @@ fn argument_sorts(
 }
 
 // The sorts that the items of a declaration's third item name, into an empty row.
-fn arguments_at(
-    text: &[u8],
-    form: &[u32],
-    sorts: &[u32],
-    known: usize,
-    row: &mut [u32],
-) -> Result<usize, Question>
-    requires reaching { Reaching text.now form.now 2 }
-    requires some_sorts { SomeSorts text.now sorts.now known }
+fn arguments_at(sorts: &SortTable<'_>, form: &[u32], row: &mut [u32]) -> Result<usize, Question>
+    requires reaching { Reaching sorts.now.text.now form.now 2 }
+    requires some_sorts { SomeSorts sorts.now.text.now sorts.now.rows.now sorts.now.count }
     requires row_len { length row.old ≡ ARGUMENTS }
-    ensures { (T : Theory) (xs : Sexps) → SortsHeld text.now sorts.now known T.sorts → Holds text.now form.now xs → 2 < items xs →
+    ensures { (T : Theory) (xs : Sexps) → let s = sorts.now in SortsHeld s.text.now s.rows.now s.count T.sorts → Holds s.text.now form.now xs → 2 < items xs →
         ArgumentsRead row.old row.new 0 (arguments_of T (item xs 2)) result }
 {
-    let Item::List(a, b) = items::nth(form, 2) else {
+    let Some(arguments) = items::list(form, 2) else {
         return Err(Question::Declared);
     };
-    argument_sorts(text, &form[a..b], sorts, known, row)
+    argument_sorts(sorts, arguments, row)
 }
 
 // Stores a symbol, if there is room.
@@ -82,7 +69,7 @@ fn store(
     let at = 4 * count;
     tables.symbols[at] = output as u32;
     tables.symbols[at + 1] = arity as u32;
-    put_name(tables.symbols, at + 2, name);
+    put_span(tables.symbols, at + 2, name);
     write(&mut tables.inputs[rules::ARGUMENTS * count..], row);
     tables.held.symbols = count + 1;
     Ok(())
@@ -98,18 +85,17 @@ pub fn add_ctor(text: &[u8], form: &[u32], tables: &mut Tables<'_>) -> Result<()
         Leaving text.now tables.new T (add_ctor xs T) result }
 {
     let name = proper_at(text, form, 1)?;
-    // a row of its own with its length beside it, since the core allocates nothing
+    // as wide as a row of the table, and zero behind what is read, since `store` writes all of it
     let mut row = [0u32; rules::ARGUMENTS];
-    let held = tables.held;
-    let sorts = &mut *tables.sorts;
-    let arity = arguments_at(text, form, sorts, held.sorts, &mut row)?;
+    let sorts = tables.sort_table(text);
+    let arity = arguments_at(&sorts, form, &mut row)?;
     let result = items::nth(form, 3);
-    let output = sort(text, result, sorts, held.sorts)?;
+    let output = sorts.sort(result)?;
     let known = tables.known(text);
-    let bytes = &text[name.from..name.end];
-    let None = known.named(Kind::Constructor, bytes) else {
+    let bytes = name.of(text);
+    if known.named(Kind::Constructor, bytes).is_some() {
         return Err(Question::Declared);
-    };
+    }
     store(tables, output, arity, name, &row)
 }
 
@@ -122,15 +108,14 @@ pub fn add_pred(text: &[u8], form: &[u32], tables: &mut Tables<'_>) -> Result<()
         Leaving text.now tables.new T (add_pred xs T) result }
 {
     let name = proper_at(text, form, 1)?;
-    // a row of its own with its length beside it, since the core allocates nothing
+    // as wide as a row of the table, and zero behind what is read, since `store` writes all of it
     let mut row = [0u32; rules::ARGUMENTS];
-    let held = tables.held;
-    let sorts = &mut *tables.sorts;
-    let arity = arguments_at(text, form, sorts, held.sorts, &mut row)?;
+    let sorts = tables.sort_table(text);
+    let arity = arguments_at(&sorts, form, &mut row)?;
     let known = tables.known(text);
-    let bytes = &text[name.from..name.end];
-    let None = known.named(Kind::Predicate, bytes) else {
+    let bytes = name.of(text);
+    if known.named(Kind::Predicate, bytes).is_some() {
         return Err(Question::Declared);
-    };
+    }
     store(tables, 0, arity, name, &row)
 }

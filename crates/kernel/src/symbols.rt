@@ -1,4 +1,4 @@
-// Sorts, constructors and predicates, from the items of their declarations to their rows.
+// Names that a declaration may give, the sort that an item names, and the declaration of a sort.
 ghost use Rattle.std.specs.Prelude.{◌≡◌, ℕ, List, ok_or};
 ghost use Rattle.questions.specs.declared.Question.TheVariants.{Declared};
 ghost use Rattle.rules.specs.Sexp.{Sexp, Sexps, Name, marked, item};
@@ -12,8 +12,8 @@ ghost use Rattle.sexp.specs.FirstItem.{SomeItem};
 ghost use Rattle.kernel.specs.Held.{Form, SortsHeld, SomeSorts};
 ghost use Rattle.kernel.specs.Tables.{SameTables, Holding, HoldingSome, Leaving};
 
-use crate::atoms::{marked, put_name};
-use crate::readers::sort_named;
+use crate::atoms::{marked, put_span};
+use crate::names::SortTable;
 use crate::tables::Tables;
 use cells::Span;
 use questions::{Question, Row};
@@ -44,16 +44,18 @@ pub fn proper_at(text: &[u8], form: &[u32], number: usize) -> Result<Span, Quest
     proper(text, item)
 }
 
-// The number of the sort that an item names, from 1 on.
-pub fn sort(text: &[u8], item: Item, sorts: &[u32], count: usize) -> Result<usize, Question>
-    requires some_item { SomeItem text.now item }
-    requires some_sorts { SomeSorts text.now sorts.now count }
-    ensures { (x : Sexp) (at : ℕ) → item ≡ item_of at x → Spelt text.now x →
-        (ns : List Name) → SortsHeld text.now sorts.now count ns → result ≡ ok_or (sort_of ns x) Declared }
-{
-    let name = proper(text, item)?;
-    let bytes = &text[name.from..name.end];
-    sort_named(text, sorts, count, bytes).ok_or(Question::Declared)
+impl SortTable<'_> {
+    // The number of the sort that an item of the text names, from 1 on.
+    pub fn sort(&self, item: Item) -> Result<usize, Question>
+        requires some_item { SomeItem self.now.text.now item }
+        requires some_sorts { SomeSorts self.now.text.now self.now.rows.now self.now.count }
+        ensures { (x : Sexp) (at : ℕ) → item ≡ item_of at x → Spelt self.now.text.now x →
+            (ns : List Name) → SortsHeld self.now.text.now self.now.rows.now self.now.count ns → result ≡ ok_or (sort_of ns x) Declared }
+    {
+        let name = proper(self.text, item)?;
+        let bytes = name.of(self.text);
+        self.named(bytes).ok_or(Question::Declared)
+    }
 }
 
 // `(sort NAME)`, given the items of the form.
@@ -65,16 +67,16 @@ pub fn add_sort(text: &[u8], form: &[u32], tables: &mut Tables<'_>) -> Result<()
         Leaving text.now tables.new T (add_sort xs T) result }
 {
     let name = proper_at(text, form, 1)?;
-    let sorts = &mut *tables.sorts;
-    let count = tables.held.sorts;
-    let bytes = &text[name.from..name.end];
-    let None = sort_named(text, sorts, count, bytes) else {
+    let sorts = tables.sort_table(text);
+    let bytes = name.of(text);
+    if sorts.named(bytes).is_some() {
         return Err(Question::Declared);
-    };
+    }
+    let count = tables.held.sorts;
     if count >= rules::SORTS {
         return Err(Question::Room(Row::Sorts));
     }
-    put_name(sorts, 2 * count, name);
+    put_span(tables.sorts, 2 * count, name);
     tables.held.sorts = count + 1;
     Ok(())
 }

@@ -1,12 +1,12 @@
 // The tables of a theory, lent together with what is used of them.
 ghost use Rattle.std.specs.Prelude.{◌≡◌, ◌≤◌, length};
 ghost use Rattle.kernel.specs.Parsed.{CountsFit, zero_from, wiped};
-ghost use Rattle.kernel.specs.Tables.{lists_of, known_of, SameTables};
+ghost use Rattle.kernel.specs.Tables.{lists_of, sorts_of, known_of, SameTables};
 
-use crate::names::SymbolTable;
+use crate::names::{SortTable, SymbolTable};
 use cells::clear;
 
-// What is used: sorts, symbols, rules, and words of the rules' patterns.
+// What is used: sorts, symbols, rules, and words of the rules' patterns (a check's counts are those of `counts`).
 #[derive(Clone, Copy, Debug, PartialEq, Eq)]
 pub struct Counts {
     pub sorts: usize,
@@ -37,6 +37,17 @@ pub struct Tables<'a> {
 }
 
 impl Tables<'_> {
+    // The sorts, with names in that text, to be read.
+    pub fn sort_table<'t>(&'t self, text: &'t [u8]) -> SortTable<'t>
+        ensures { result ≡ sorts_of text.entry self.now }
+    {
+        SortTable {
+            text,
+            rows: self.sorts,
+            count: self.held.sorts,
+        }
+    }
+
     // The symbols, with names in that text, to be read.
     pub fn known<'t>(&'t self, text: &'t [u8]) -> SymbolTable<'t>
         ensures { result ≡ known_of text.entry self.now }

@@ -2,7 +2,8 @@
 use Rattle.std.specs.Prelude.{ℕ, ⊤, ◌<◌, ◌^◌, ◌≡◌, List, [], ◌∷◌, ◌++◌, Result, Ok, Err}
 use Rattle.std.specs.Fmt.{decimal}
 use Rattle.running.specs.declared.finish.Report.{Report}
-use Rattle.running.specs.declared.finish.Refusal.{Refusal}
+use Rattle.running.specs.declared.refusal.Refusal.{Refusal}
+use Rattle.running.specs.Refusals.{refusal_of}
 use Rattle.printing.specs.Written.{Decimal, decimal_written}
 use mathlib.Core.Path.{refl}
 
@@ -19,8 +20,8 @@ word (Ok r) = accepted
 word (Err r) = refused
 
 abbrev pub numbers : Result Report Refusal → List ℕ
-numbers (Ok r) = r.steps ∷ r.goals ∷ r.open_goals ∷ r.hypotheses ∷ r.inductions ∷ r.inversions ∷ r.instances ∷ []
-numbers (Err r) = r.number ∷ r.text ∷ r.form ∷ r.detail ∷ []
+numbers (Ok r) = r.steps ∷ r.goals ∷ r.open_goals ∷ r.counts.hypotheses ∷ r.counts.inductions ∷ r.counts.inversions ∷ r.counts.instances ∷ []
+numbers (Err r) = (refusal_of r).number ∷ (refusal_of r).text ∷ (refusal_of r).form ∷ (refusal_of r).detail ∷ []
 
 abbrev pub fields : List ℕ → List ℕ
 fields [] = 41 ∷ []

@@ -2,7 +2,8 @@
 ghost use Rattle.std.specs.Prelude.{Some};
 ghost use Rattle.printing.specs.Lines.{line_text};
 
-use running::finish::{Refusal, Report};
+use running::finish::Report;
+use running::refusal::Refusal;
 use std::fmt;
 
 #[derive(Clone, Copy)]
@@ -19,15 +20,18 @@ impl fmt::Display for Line {
                 r.steps,
                 r.goals,
                 r.open_goals,
-                r.hypotheses,
-                r.inductions,
-                r.inversions,
-                r.instances
+                r.counts.hypotheses,
+                r.counts.inductions,
+                r.counts.inversions,
+                r.counts.instances
             ),
             Err(r) => write!(
                 f,
                 "(refused {} {} {} {})",
-                r.number, r.text, r.form, r.detail
+                r.number(),
+                r.text(),
+                r.form(),
+                r.detail()
             ),
         }
     }

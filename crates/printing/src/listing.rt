@@ -2,7 +2,7 @@
 // `(footing INDEX RULE...)`, and 53's list, `(missing [N N ..])`.
 use crate::checked::Checked;
 use facts::Fact;
-use rules::{RULES, SYMBOLS};
+use rules::{RULES, RULEWORDS};
 use std::alloc::Global;
 use std::io::Write;
 use std::{fmt, io};
@@ -43,7 +43,7 @@ impl Checked<'_> {
 
     fn write_variables<W: Write>(&self, variables: &[u32], out: &mut W) -> io::Result<()> {
         for (i, v) in variables.iter().enumerate() {
-            write!(out, "{}{}", gap(i), self.head_name(SYMBOLS + *v as usize))?;
+            write!(out, "{}{}", gap(i), self.variable_name(*v as usize))?;
         }
         Ok(())
     }
@@ -69,12 +69,15 @@ impl Checked<'_> {
     }
 
     // A bit of the words is a rule.
-    fn write_footing<W: Write>(&self, k: usize, words: &[u64; 4], out: &mut W) -> io::Result<()> {
+    fn write_footing<W: Write>(
+        &self,
+        k: usize,
+        words: &[u64; RULEWORDS],
+        out: &mut W,
+    ) -> io::Result<()> {
         write!(out, "(footing {k}")?;
-        for r in 0..RULES {
-            if has(words, r) {
-                write!(out, " {}", self.rule_name(r))?;
-            }
+        for r in (0..RULES).filter(|r| has(words, *r)) {
+            write!(out, " {}", self.rule_name(r))?;
         }
         writeln!(out, ")")
     }

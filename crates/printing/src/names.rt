@@ -4,8 +4,8 @@ ghost use Rattle.printing.specs.Names.{name_text};
 
 use crate::checked::Checked;
 use questions::Text;
-use rules::SYMBOLS;
 use std::fmt;
+use terms::heads::Head;
 
 // A name of a text, or the number of a variable that was made.
 #[derive(Clone, Copy)]
@@ -25,51 +25,64 @@ impl fmt::Display for Name<'_> {
     }
 }
 
+// The text whose number a cell holds; none for 0, which a variable that was made has: docs/TABLES.md
+pub(crate) fn text_in(cell: u32) -> Option<Text> {
+    [Text::Theory, Text::Goals, Text::Proof]
+        .iter()
+        .copied()
+        .find(|text| text.number() == cell as usize)
+}
+
 // A part of a text.
 fn part(text: &[u8], from: u32, to: u32) -> &str {
-    match text.get(from as usize..to as usize) {
-        Some(name) if !name.is_empty() => str::from_utf8(name).unwrap_or("?"),
-        _ => "?",
-    }
+    text.get(from as usize..to as usize)
+        .filter(|name| !name.is_empty())
+        .and_then(|name| str::from_utf8(name).ok())
+        .unwrap_or("?")
 }
 
 impl<'a> Checked<'a> {
+    // This and `symbol_name` read rows of two tables, whose names stand in other columns: one function would be handed the row's width and the column.
     pub(crate) fn rule_name(&self, rule: usize) -> &'a str {
-        match self.rules.get(rule) {
-            Some(row) => part(self.texts.theory, row[0], row[1]),
-            None => "?",
+        self.rules
+            .get(rule)
+            .map_or("?", |row| part(self.texts.theory, row[0], row[1]))
+    }
+
+    fn symbol_name(&self, symbol: usize) -> &'a str {
+        self.symbols
+            .get(symbol)
+            .map_or("?", |row| part(self.texts.theory, row[2], row[3]))
+    }
+
+    pub(crate) fn variable_name(&self, v: usize) -> Name<'a> {
+        self.vars.get(v).filter(|row| row[2] < row[3]).map_or(
+            Name::Made(v),
+            |row| Name::Written(part(self.text(row[1]), row[2], row[3])),
+        )
+    }
+
+    pub(crate) fn head_name(&self, head: Head) -> Name<'a> {
+        match head {
+            Head::Symbol(c) => Name::Written(self.symbol_name(c)),
+            Head::Variable(v) => self.variable_name(v),
         }
     }
 
-    // A head is a symbol's number, or SYMBOLS and a variable's.
-    pub(crate) fn head_name(&self, head: usize) -> Name<'a> {
-        if head < SYMBOLS {
-            return Name::Written(match self.symbols.get(head) {
-                Some(row) => part(self.texts.theory, row[2], row[3]),
-                None => "?",
-            });
+    // The text in which a variable's name stands, by the number in its cell.
+    fn text(&self, cell: u32) -> &'a [u8] {
+        match text_in(cell) {
+            Some(Text::Goals) => self.texts.goals,
+            Some(Text::Proof) => self.texts.proof,
+            Some(Text::Theory) | None => self.texts.theory,
         }
-        let v = head - SYMBOLS;
-        match self.vars.get(v) {
-            Some(row) if row[2] < row[3] => Name::Written(part(self.text(row[1]), row[2], row[3])),
-            _ => Name::Made(v),
-        }
-    }
-
-    // The text in which a variable's name stands, by the number in its cell, which C reads; a `match` over the number would have to say 2 and 3.
-    fn text(&self, number: u32) -> &'a [u8] {
-        let number = number as usize;
-        if number == Text::Goals.number() {
-            return self.texts.goals;
-        }
-        if number == Text::Proof.number() {
-            return self.texts.proof;
-        }
-        self.texts.theory
     }
 
     // 0 in a cell is none: docs/TABLES.md
-    pub(crate) fn is_predicate(&self, head: usize) -> bool {
-        self.symbols.get(head).is_some_and(|row| row[0] == 0)
+    pub(crate) fn is_predicate(&self, head: Head) -> bool {
+        match head {
+            Head::Symbol(c) => self.symbols.get(c).is_some_and(|row| row[0] == 0),
+            Head::Variable(_) => false,
+        }
     }
 }

@@ -3,25 +3,29 @@ ghost use Rattle.std.specs.Prelude.{◌≤◌};
 ghost use Rattle.rules.specs.Limits.{FACTS};
 
 use crate::checked::Checked;
+use crate::names::text_in;
 use questions::Text;
 use rules::FACTS;
+use running::refusal::Refusal;
 
 impl Checked<'_> {
-    // A text is known by its number, in the answer and in a cell, which C reads; 0 in a cell is none: docs/TABLES.md
+    // 0 in a cell is none: docs/TABLES.md
     pub fn recorded(&self) -> usize
         ensures { result ≤ FACTS }
     {
         let facts = match self.answer {
             Ok(r) => r.steps,
-            Err(r) if r.text == Text::Proof.number() => {
+            Err(Refusal::Stopped(stopped)) if stopped.text == Text::Proof => {
                 let vars = self
                     .vars
                     .iter()
-                    .filter(|row| row[1] as usize == Text::Proof.number())
+                    .filter(|row| text_in(row[1]) == Some(Text::Proof))
                     .count();
                 let defs = self.defs.iter().filter(|row| row[1] != 0).count();
                 let taken = self.rows.iter().filter(|row| row[5] != 0).count();
-                r.form
+                stopped
+                    .refused
+                    .form
                     .saturating_sub(vars)
                     .saturating_sub(defs)
                     .saturating_sub(taken)

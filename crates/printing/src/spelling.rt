@@ -5,6 +5,7 @@ use std::alloc::Global;
 use std::io;
 use std::io::Write;
 use std::slice::Iter;
+use terms::heads::head_of;
 
 // What may be written of one term.
 const BYTES: usize = 1000000;
@@ -29,7 +30,7 @@ impl<W: Write> Write for Counted<'_, W> {
 }
 
 impl<'a> Checked<'a> {
-    // Its head and its arguments.
+    // Its first word and its arguments.
     fn words_of(&self, term: usize) -> Option<(&'a u32, &'a [u32])> {
         let from = match term.checked_sub(1) {
             Some(before) => *self.index.get(before)?,
@@ -46,10 +47,10 @@ impl<'a> Checked<'a> {
         waiting: &mut Vec<Iter<'a, u32>>,
         out: &mut W,
     ) -> io::Result<()> {
-        let Some((head, arguments)) = self.words_of(term as usize) else {
+        let Some((word, arguments)) = self.words_of(term as usize) else {
             return write!(out, "?");
         };
-        let head = *head as usize;
+        let head = head_of(*word);
         let name = self.head_name(head);
         if arguments.is_empty() && !self.is_predicate(head) {
             return write!(out, "{name}");
@@ -67,7 +68,7 @@ impl<'a> Checked<'a> {
         let mut waiting = Vec::new(alloc);
         let mut out = Counted { out, left: BYTES };
         self.open(term, &mut waiting, &mut out)?;
-        // Each turn writes a byte or more.
+        // a `for`, so that it is seen to end: each turn writes a byte or more, and BYTES are left at most
         for _ in 0..=BYTES {
             let Some(arguments) = waiting.last_mut() else {
                 break;

@@ -67,7 +67,7 @@ pub enum Question {
     Instance,
     Binding,
     // the premises of a step; conclusion and premises against its rule; the lowest variable that is in neither the conclusion nor the hypotheses, counted
-    // from 1
+    // from 1 as it is told: `detail` answers for each value, and no number is one higher than the highest
     Premises,
     Matching,
     Scope(usize),

@@ -1,13 +1,13 @@
 -- The loop over bindings: what is left of the items, from the map and the store as they are now, gives what all of them give from the start.
 -- Assumes nothing.
 use mathlib.Core.Path.{◌≡◌, sym, ap, ◌∙◌, subst}
-use mathlib.Core.Bool.{not, true, false, true≢false, false≢true}
+use mathlib.Core.Bool.{not}
 use mathlib.Core.List.{List, []}
-use Prim.Native.Nat.{ℕ, ◌+◌, ◌-◌, ◌^◌, ◌<◌, ◌≤◌}
+use Prim.Native.Nat.{ℕ, ◌+◌, ◌^◌, ◌<◌, ◌≤◌}
 use native.Mathlib.Omega.{arith}
 use native.Mathlib.Numerals.{add-one}
 use native.Mathlib.Decide.{ℕ_discrete}
-use lib.ListN.{length, get_or, set, take, drop, replicate, length-replicate, length-set}
+use lib.ListN.{length, get_or, set, replicate, length-replicate, length-set}
 use lib.Seq.{get_or-set_same, get_or-set_other}
 use borrow.Author.Tests.{eq-eqb, ne_eqb}
 use Rattle.rules.specs.Limits.{VARIABLES}
@@ -15,7 +15,9 @@ use Rattle.rules.specs.Sexp.{Sexps, cons}
 use Rattle.rules.specs.Unify.{Binding, insert}
 use Rattle.rules.specs.State.{State}
 use Rattle.rules.specs.Reference.{binding, bindings}
-use Rattle.sexp.specs.Items.{item_at, behind}
+use Rattle.sexp.specs.Items.{Holds}
+use Rattle.sexp.specs.Each.{Here}
+use Rattle.sexp.specs.declared.items.Each.{Each}
 use Rattle.sexp.specs.WalkLaws.{Walk, walk_start, walk_over}
 use Rattle.terms.specs.declared.store.Mark.{Mark}
 use Rattle.terms.specs.Table.{made, tree}
@@ -25,15 +27,15 @@ use Rattle.terms.specs.Laws.Zeros.{get_d_zeros}
 use Rattle.terms.specs.Laws.Theta.{bindings_none, bindings_bound, bindings_set, bindings_grown, theta_grown}
 use Rattle.state.specs.declared.sizes.Sizes.{Sizes}
 use Rattle.state.specs.Held.{Names}
-use Rattle.std.specs.Result.{is_err}
 use Rattle.reading.specs.Given.{Reads, ReadsItem, ReadsItems}
+use Rattle.cells.specs.Cleared.{ClearedBy}
 use Rattle.reading.specs.Answers.{PairRead, PairBy, BindingsRead, BindingsBy}
 use Rattle.reading.specs.Laws.Reading.{reads_binding}
 use Rattle.reading.specs.declared.bindings.Pair.{Pair}
 use Rattle.std.specs.Prelude.{Result, Ok, Err}
 use Rattle.questions.specs.Numbers.{number_of, detail_of}
 use Rattle.questions.specs.declared.Question.{Question}
-use Rattle.reading.specs.Laws.Walks.{Here, here, walk_next}
+use Rattle.reading.specs.Laws.Walks.{Here as Item, here, walk_next}
 use Rattle.reading.proofs.Filling.{cleared}
 
 -- zs are left in the cells from a place on
@@ -91,17 +93,17 @@ module _ {K : Names} {n : Sizes} {I W : List ℕ} {old : Mark} {cells : List ℕ
 
   -- One binding ------------------------------------------------------------------------------------------------------------------------
 
-  module _ (t : at < length cells) where
-    pub one : Here K.text cells at l.zs
-    one = here l.walk t
+  module _ {part : List ℕ} {next : Each} (w : Here cells part at next) where
+    pub one : Item K.text cells at l.zs
+    one = here l.walk w.inside
 
-    abbrev pub left_given : ReadsItem K n J X now (take (length cells - at) (drop at cells))
-    left_given = record { S = S; x = one.x; ys = one.ys; reads = l.reads; holds = one.holds }
+    abbrev pub left_given : ReadsItem K n J X now part
+    left_given = record { S = S; x = one.x; ys = one.ys; reads = l.reads; holds = subst (λ z. Holds K.text z (cons one.x one.ys)) (sym w.is) one.holds }
 
     on_one : On I W old (bindings S xs [] (made I W old)) J X now (bindings S (cons one.x one.ys) (in_cells (made J X now) map 0) (made J X now))
     on_one = on_is l.on (ap (λ (z : Sexps). bindings S z (in_cells (made J X now) map 0) (made J X now)) one.is)
 
-    module _ (Y Z : List ℕ) (new : Mark) (r : Result Pair Question) (p : (h : ReadsItem K n J X now (take (length cells - at) (drop at cells))) → PairBy J X Y Z now new (binding h.S h.x (made J X now)) r) where
+    module _ (Y Z : List ℕ) (new : Mark) {r : Result Pair Question} (p : (h : ReadsItem K n J X now part) → PairBy J X Y Z now new (binding h.S h.x (made J X now)) r) where
       pub left_refused : {q : Question} → r ≡ Err q → Stopped I W Y Z old (bindings S xs [] (made I W old)) (number_of q) (detail_of q) new
       unfolding bindings
       left_refused e = on_no _ on_one (subst (λ z. PairBy J X Y Z now new (binding S one.x (made J X now)) z) e (p left_given))
@@ -137,11 +139,11 @@ module _ {K : Names} {n : Sizes} {I W : List ℕ} {old : Mark} {cells : List ℕ
               (on_ask_yes _ 36 (on_ok _ on_one left_pair.went) (ap not (bindings_bound (made J X now) map pair.variable ∙ ap not (eq-eqb (get_or map pair.variable 0) 0 q))))
               (ap (λ (bs : List Binding). bindings S one.ys bs (made Y Z new)) one_more_lem)
 
-          pub left_again : {next : ℕ} → next ≡ behind at (item_at cells at) → Left K n I W old cells S xs Y Z new (set map pair.variable (pair.term + 1)) next
-          left_again f =
+          pub left_again : Left K n I W old cells S xs Y Z new (set map pair.variable (pair.term + 1)) next.at
+          left_again =
               record {
                 zs = one.ys;
-                walk = walk_next one.walk f;
+                walk = walk_next one.walk w.behind;
                 reads = reads_binding l.reads one.x left_pair.went;
                 on = on_more;
                 theta = theta_set pair.variable pair.term (theta_grown left_pair.went.grown l.theta) left_pair.small left_pair.there;
@@ -151,19 +153,11 @@ module _ {K : Names} {n : Sizes} {I W : List ℕ} {old : Mark} {cells : List ℕ
 module _ {K : Names} {n : Sizes} {I W : List ℕ} {m : Mark} {cells : List ℕ} (J X map : List ℕ) (new : Mark) (r : Result (Unit {0}) Question)
     (g : ReadsItems K n I W m cells)
     (h : (k : ReadsItems K n I W m cells) → BindingsBy I W J X m new (bindings k.S k.xs [] (made I W m)) map map r) where
-  pub bindings_ok : (before : List ℕ) → is_err r ≡ false → BindingsBy I W J X m new (bindings g.S g.xs [] (made I W m)) before map r
-  bindings_ok before e = go r (h g) e
+  pub bindings_read : {before : List ℕ} (last : List ℕ) → before ≡ replicate VARIABLES 0 → length map ≡ length before → ClearedBy 0 r map last →
+      BindingsBy I W J X m new (bindings g.S g.xs [] (made I W m)) before last r
+  bindings_read {before} last o s c = go r (h g) c
     where
-      go : (z : Result (Unit {0}) Question) → BindingsBy I W J X m new (bindings g.S g.xs [] (made I W m)) map map z → is_err z ≡ false →
-          BindingsBy I W J X m new (bindings g.S g.xs [] (made I W m)) before map z
-      go (Ok _) k f = k
-      go (Err q) k f = absurd (true≢false f)
-
-  pub bindings_err : {before last : List ℕ} → is_err r ≡ true → before ≡ replicate VARIABLES 0 → length map ≡ length before →
-      last ≡ replicate (length map) 0 → BindingsBy I W J X m new (bindings g.S g.xs [] (made I W m)) before last r
-  bindings_err {before} {last} e o s c = go r (h g) e
-    where
-      go : (z : Result (Unit {0}) Question) → BindingsBy I W J X m new (bindings g.S g.xs [] (made I W m)) map map z → is_err z ≡ true →
+      go : (z : Result (Unit {0}) Question) → BindingsBy I W J X m new (bindings g.S g.xs [] (made I W m)) map map z → ClearedBy 0 z map last →
           BindingsBy I W J X m new (bindings g.S g.xs [] (made I W m)) before last z
-      go (Ok _) k f = absurd (false≢true f)
-      go (Err q) k f = (k.0, cleared map o (s ∙ ap length o ∙ length-replicate {A = ℕ} VARIABLES 0) c)
+      go (Ok _) k f = rw f k
+      go (Err q) k f = (k.0, cleared map o (s ∙ ap length o ∙ length-replicate {A = ℕ} VARIABLES 0) f)

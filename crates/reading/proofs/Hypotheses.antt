@@ -1,6 +1,6 @@
 -- The loop over a list of hypotheses: each an earlier fact that passes the test. Assumes nothing.
 use mathlib.Core.Path.{◌≡◌, refl, sym, ap, ◌∙◌, subst}
-use mathlib.Core.Bool.{Bool, true, false, not, true≢false, false≢true}
+use mathlib.Core.Bool.{Bool, true, false, not}
 use Rattle.std.specs.Prelude.{Option, Some as some, None as nothing, Result, Ok, Err}
 use mathlib.Core.List.{List, [], ◌∷◌, ◌++◌, append-nil, append_assoc}
 use Prim.Native.Nat.{ℕ, ◌-◌, ◌*◌, ◌<◌, ◌≤◌}
@@ -22,7 +22,8 @@ use Rattle.rules.specs.Laws.Entry.{entry_below}
 use Rattle.rules.specs.Laws.Rising.{has_all}
 use Rattle.rules.specs.Laws.Members.{has_rising_all}
 use Rattle.sexp.specs.Items.{Holds, item_at, behind}
-use Rattle.sexp.specs.WalkLaws.{Walk, walk_start, walk_over, ListIs}
+use Rattle.sexp.specs.WalkLaws.{Walk, walk_start, walk_over}
+use Rattle.sexp.specs.Each.{ListOf}
 use Rattle.terms.specs.Sets.{holds, plus}
 use Rattle.terms.specs.Laws.Sets.{holds_zero}
 use Rattle.state.specs.declared.sizes.Sizes.{Sizes}
@@ -30,8 +31,8 @@ use Rattle.state.specs.Rows.{cell, plain_row}
 use Rattle.state.specs.RowTables.{tabled_long}
 use Rattle.state.specs.FactLaws.{facts_tabled, fact_row_lem}
 use Rattle.reading.specs.Items.{FirstItem, index_in, index_found}
-use Rattle.std.specs.Result.{is_err}
 use Rattle.reading.specs.Given.{FactsItem, FactsItems}
+use Rattle.cells.specs.Cleared.{ClearedBy}
 use Rattle.reading.specs.Answers.{HypsRead, HypsAs}
 use Rattle.questions.specs.declared.Question.{Question}
 use Rattle.reading.proofs.Filling.{cleared}
@@ -202,8 +203,8 @@ module _ {text facts cells : List ℕ} {n : Sizes} (g : FactsItems text facts n 
 
 -- A list among items -----------------------------------------------------------------------------------------------------------------------
 
-module _ {text facts cells : List ℕ} {n : Sizes} (g : FactsItem text facts n cells) {a b : ℕ} (l : ListIs text cells g.x a b) where
-  abbrev pub facts_inside : FactsItems text facts n (take (b - a) (drop a cells))
+module _ {text facts cells : List ℕ} {n : Sizes} (g : FactsItem text facts n cells) {part : List ℕ} (l : ListOf text cells g.x part) where
+  abbrev pub facts_inside : FactsItems text facts n part
   facts_inside =
       record {
         S = g.S;
@@ -218,23 +219,14 @@ module _ {text facts cells : List ℕ} {n : Sizes} (g : FactsItem text facts n c
   hyps_inside : (p : Fact → Bool) (before set : List ℕ) (r : Result (Unit {0}) Question) → HypsAs p g.S (list l.items) before set r → HypsAs p g.S g.x before set r
   hyps_inside p before set r h = subst (λ (z : Sexp). HypsAs p g.S z before set r) (sym l.is) h
 
--- A list that is read, or that is refused: then the set, which was empty before, is cleared
-module _ {text facts cells : List ℕ} {n : Sizes} (g : FactsItem text facts n cells) {a b : ℕ} (l : ListIs text cells g.x a b) (p : Fact → Bool)
-    (set : List ℕ) (r : Result (Unit {0}) Question) (h : HypsAs p g.S (list l.items) set set r) where
-  pub hyps_ok : (before : List ℕ) → is_err r ≡ false → HypsAs p g.S g.x before set r
-  hyps_ok before e = go r (hyps_inside g l p set set r h) e
+  -- it is read, or refused: then the set, which was empty before, is cleared
+  pub hyps_read : (p : Fact → Bool) (set : List ℕ) (r : Result (Unit {0}) Question) → HypsAs p g.S (list l.items) set set r → {before : List ℕ} (last : List ℕ) →
+      before ≡ replicate FACTWORDS 0 → length set ≡ length before → ClearedBy 0 r set last → HypsAs p g.S g.x before last r
+  hyps_read p set r h {before} last o s c = go r (hyps_inside p set set r h) c
     where
-      go : (z : Result (Unit {0}) Question) → HypsAs p g.S g.x set set z → is_err z ≡ false → HypsAs p g.S g.x before set z
-      go (Ok _) k f = k
-      go (Err q) k f = absurd (true≢false f)
-
-  pub hyps_err : {before last : List ℕ} → is_err r ≡ true → before ≡ replicate FACTWORDS 0 → length set ≡ length before → last ≡ replicate (length set) 0 →
-      HypsAs p g.S g.x before last r
-  hyps_err {before} {last} e o s c = go r (hyps_inside g l p set set r h) e
-    where
-      go : (z : Result (Unit {0}) Question) → HypsAs p g.S g.x set set z → is_err z ≡ true → HypsAs p g.S g.x before last z
-      go (Ok _) k f = absurd (false≢true f)
-      go (Err q) k f = (k.0, (cleared set o (s ∙ ap length o ∙ length-replicate {A = ℕ} FACTWORDS 0) c, k.1.1))
+      go : (z : Result (Unit {0}) Question) → HypsAs p g.S g.x set set z → ClearedBy 0 z set last → HypsAs p g.S g.x before last z
+      go (Ok _) k f = rw f k
+      go (Err q) k f = (k.0, (cleared set o (s ∙ ap length o ∙ length-replicate {A = ℕ} FACTWORDS 0) f, k.1.1))
 
 -- The tests -------------------------------------------------------------------------------------------------------------------------------
 

@@ -1,6 +1,5 @@
 -- The loop over a list of judgments. Assumes nothing.
 use mathlib.Core.Path.{◌≡◌, refl, sym, ap, ◌∙◌, subst}
-use mathlib.Core.Bool.{true, false, true≢false, false≢true}
 use mathlib.Core.List.{List, [], ◌∷◌, ◌++◌}
 use Prim.Native.Nat.{ℕ, ◌+◌, ◌-◌, ◌<◌, ◌≤◌}
 use native.Mathlib.Omega.{arith}
@@ -16,7 +15,8 @@ use Rattle.rules.specs.TheoryTables.{filled}
 use Rattle.rules.specs.Laws.Theory.{All, empty, both, all_snoc, all_map, all_at}
 use Rattle.rules.specs.Laws.Out.{then_then}
 use Rattle.sexp.specs.Items.{Holds, item_at, behind}
-use Rattle.sexp.specs.WalkLaws.{Walk, walk_start, walk_over, ListIs}
+use Rattle.sexp.specs.WalkLaws.{Walk, walk_start, walk_over}
+use Rattle.sexp.specs.Each.{ListOf}
 use Rattle.terms.specs.declared.store.Mark.{Mark}
 use Rattle.terms.specs.Table.{made, tree, args_of, Grown}
 use Rattle.terms.specs.On.{Stopped, On, on_start, on_is, on_ok, on_no, on_done}
@@ -29,9 +29,9 @@ use Rattle.state.specs.Filled.{filled_none}
 use Rattle.std.specs.Prelude.{Result, Ok, Err}
 use Rattle.questions.specs.Numbers.{number_of, detail_of}
 use Rattle.questions.specs.declared.Question.{Question}
-use Rattle.std.specs.Result.{is_err}
 use Rattle.terms.specs.Laws.Below.{ahead, ahead_none, ahead_snoc}
 use Rattle.reading.specs.Given.{Reads, ReadsItem, ReadsItems}
+use Rattle.cells.specs.Cleared.{ClearedBy}
 use Rattle.reading.specs.Answers.{TermRead, ReadBy, JudgmentsRead, JudgmentsBy}
 use Rattle.reading.specs.Laws.Reading.{reads_judgment, reads_item}
 use Rattle.reading.specs.Laws.Walks.{Here, here, go_on, then_same}
@@ -163,31 +163,23 @@ module _ {K : Names} {n : Sizes} {I W : List ℕ} {old : Mark} {S : State} {xs :
 
 -- A list among items -----------------------------------------------------------------------------------------------------------------------
 
-module _ {K : Names} {n : Sizes} {I W : List ℕ} {m : Mark} {cells : List ℕ} (g : ReadsItem K n I W m cells) {a b : ℕ}
-    (l : ListIs K.text cells g.x a b) where
-  pub reads_inside : ReadsItems K n I W m (take (b - a) (drop a cells))
+module _ {K : Names} {n : Sizes} {I W : List ℕ} {m : Mark} {cells : List ℕ} (g : ReadsItem K n I W m cells) {part : List ℕ}
+    (l : ListOf K.text cells g.x part) where
+  pub reads_inside : ReadsItems K n I W m part
   reads_inside = record { S = g.S; xs = l.items; reads = g.reads; holds = l.holds }
 
   -- it is read, or refused: then the cells, which were zero before, are cleared
   module _ (J X out : List ℕ) (new : Mark) (r : Result ℕ Question)
-      (h : (k : ReadsItems K n I W m (take (b - a) (drop a cells))) → JudgmentsBy I W J X m new (judgments k.S (list k.xs) (made I W m)) out out r) where
+      (h : (k : ReadsItems K n I W m part) → JudgmentsBy I W J X m new (judgments k.S (list k.xs) (made I W m)) out out r) where
     inside : JudgmentsBy I W J X m new (judgments g.S g.x (made I W m)) out out r
     unfolding reads_inside
     inside = subst (λ (z : Sexp). JudgmentsBy I W J X m new (judgments g.S z (made I W m)) out out r) (sym l.is) (h reads_inside)
 
-    pub judgments_ok : (before : List ℕ) → is_err r ≡ false → JudgmentsBy I W J X m new (judgments g.S g.x (made I W m)) before out r
-    judgments_ok before e = go r inside e
+    pub judgments_read : {before : List ℕ} (last : List ℕ) → before ≡ replicate (length before) 0 → length out ≡ length before → ClearedBy 0 r out last →
+        JudgmentsBy I W J X m new (judgments g.S g.x (made I W m)) before last r
+    judgments_read {before} last o s c = go r inside c
       where
-        go : (z : Result ℕ Question) → JudgmentsBy I W J X m new (judgments g.S g.x (made I W m)) out out z → is_err z ≡ false →
-            JudgmentsBy I W J X m new (judgments g.S g.x (made I W m)) before out z
-        go (Ok many) k f = k
-        go (Err q) k f = absurd (true≢false f)
-
-    pub judgments_err : {before last : List ℕ} → is_err r ≡ true → before ≡ replicate (length before) 0 → length out ≡ length before →
-        last ≡ replicate (length out) 0 → JudgmentsBy I W J X m new (judgments g.S g.x (made I W m)) before last r
-    judgments_err {before} {last} e o s c = go r inside e
-      where
-        go : (z : Result ℕ Question) → JudgmentsBy I W J X m new (judgments g.S g.x (made I W m)) out out z → is_err z ≡ true →
+        go : (z : Result ℕ Question) → JudgmentsBy I W J X m new (judgments g.S g.x (made I W m)) out out z → ClearedBy 0 z out last →
             JudgmentsBy I W J X m new (judgments g.S g.x (made I W m)) before last z
-        go (Ok many) k f = absurd (false≢true f)
-        go (Err q) k f = (k.0, cleared out o s c)
+        go (Ok many) k f = rw f k
+        go (Err q) k f = (k.0, cleared out o s f)

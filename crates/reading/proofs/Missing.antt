@@ -1,20 +1,2 @@
--- A question put to what is there or not, by `ok_or`. Assumes nothing.
-use mathlib.Core.Path.{◌≡◌, sym, ap, ◌∙◌}
-use Rattle.std.specs.Prelude.{Option, Some as some, None as nothing, Result, Ok, Err, ok_or}
-use Rattle.std.specs.Result.{result_ok}
-
-module _ {A E : Type 0} (o : Option A) (r : Result A E) (k : o ≡ result_ok r) where
-  pub there : {a : A} → r ≡ Ok a → o ≡ some a
-  there e = k ∙ ap result_ok e
-
-  pub absent : {e : E} → r ≡ Err e → o ≡ nothing
-  absent e = k ∙ ap result_ok e
-
-  asked : E → Result A E → E
-  asked q (Ok a) = q
-  asked q (Err e) = e
-
-  -- the error is the one that was put
-  pub question_is : {q e : E} → r ≡ ok_or o q → r ≡ Err e → e ≡ q
-  unfolding asked
-  question_is {q} v w = ap (asked q) (sym w ∙ v ∙ ap (λ z. ok_or z q) (absent w))
+-- A question put to what is there or not, by `ok_or`: the laws of `kernel`.
+pub use Rattle.kernel.proofs.Missing.{there, absent, question_is}

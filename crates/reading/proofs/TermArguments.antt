@@ -2,13 +2,13 @@
 use mathlib.Core.Path.{◌≡◌, refl, sym, ap, ◌∙◌, subst}
 use mathlib.Core.Bool.{Bool, true, false, ◌&&◌}
 use mathlib.Core.List.{List, [], ◌∷◌, ◌++◌}
-use Prim.Native.Nat.{ℕ, ◌+◌, ◌-◌, ◌≤◌, ◌<◌}
+use Prim.Native.Nat.{ℕ, ◌+◌, ◌≤◌, ◌<◌}
 use native.Mathlib.Omega.{arith}
 use native.Mathlib.Numerals.{add-one}
 use native.Mathlib.Decide.{ℕ_discrete}
 use Rattle.std.proofs.lemmas.Bool.{false_from_ne_true}
 use lib.Dec.{eqb, ltb}
-use lib.ListN.{length, get_or, take, drop, set, length-append, length-set, length-drop}
+use lib.ListN.{length, get_or, take, set, length-append, length-set}
 use lib.Seq.{take-suc, take-suc-set, take_all, length-take-le}
 use borrow.Author.Tests.{lt-ltb}
 use Rattle.rules.specs.Limits.{SYMBOLS, ARGUMENTS, TERMS, NODE}
@@ -21,7 +21,9 @@ use Rattle.rules.specs.Read.{term, terms}
 use Rattle.rules.specs.Laws.Theory.{all_at}
 use Rattle.rules.specs.Laws.Store.{then_ok, then_refuse}
 use Rattle.rules.specs.Laws.Out.{then_then}
-use Rattle.sexp.specs.Items.{Holds, item_at, behind}
+use Rattle.sexp.specs.Items.{Holds}
+use Rattle.sexp.specs.Each.{Here, item_long}
+use Rattle.sexp.specs.declared.items.Each.{Each}
 use Rattle.sexp.specs.ItemLaws.{More}
 use Rattle.sexp.specs.WalkLaws.{Walk, walk_start, walk_more, walk_over, walk_rest}
 use Rattle.kernel.specs.Readers.{KnownSymbol, KnownInput}
@@ -109,15 +111,23 @@ module _ {K : Names} {n : Sizes} {I W : List ℕ} {old : Mark} {cells : List ℕ
   pub going_high : k ≤ length cells
   going_high = omega (arith, g.few, g.walk.here.high)
 
-  module _ (l : at < length cells) where
+  -- at the item that the walk hands out
+  module _ {part : List ℕ} {next : Each} (w : Here cells part at next) where
     pub more_left : More g.left
-    more_left = walk_more g.walk l
+    more_left = walk_more g.walk w.inside
 
     pub first_walk : Walk K.text cells at (cons more_left.first more_left.others)
     first_walk = subst (λ z. Walk K.text cells at z) more_left.is g.walk
 
-    abbrev pub going_item : ReadsItem K n J X m (take (length cells - at) (drop at cells))
-    going_item = record { S = S; x = more_left.first; ys = more_left.others; reads = g.reads; holds = walk_rest first_walk }
+    abbrev pub going_item : ReadsItem K n J X m part
+    going_item =
+        record {
+          S = S;
+          x = more_left.first;
+          ys = more_left.others;
+          reads = g.reads;
+          holds = subst (λ z. Holds K.text z (cons more_left.first more_left.others)) (sym w.is) (walk_rest first_walk);
+        }
 
     -- the first of the items is read next
     first_on : On I W old (terms S xs (made I W old)) J X m (then (term S more_left.first (made J X m))
@@ -128,15 +138,15 @@ module _ {K : Names} {n : Sizes} {I W : List ℕ} {old : Mark} {cells : List ℕ
         ∙ then_then (term S more_left.first (made J X m)) (λ t s. then (terms S more_left.others s) (λ ts u. ok (more t ts) u))
         (λ us s. ok (before (args_of (made J X m) g.ids) us) s))
 
-    module _ (Y Z : List ℕ) (new : Mark) where
-      pub going_stops : (q d : ℕ) → ((h : ReadsItem K n J X m (take (length cells - at) (drop at cells))) → Stopped J X Y Z m (term h.S h.x (made J X m)) q d new) →
+    module _ {Y Z : List ℕ} {new : Mark} where
+      pub going_stops : {q d : ℕ} → ((h : ReadsItem K n J X m part) → Stopped J X Y Z m (term h.S h.x (made J X m)) q d new) →
           Stopped I W Y Z old (then (terms S xs (made I W old)) (fitting S c)) q d new
-      going_stops q d a =
+      going_stops {q} {d} a =
           let s = on_no _ first_on (a going_item) in
           record { grown = s.grown; makes = then_refuse (terms S xs (made I W old)) q d (made Y Z new) (fitting S c) s.makes }
 
-      module _ (t sort : ℕ)
-          (a : (h : ReadsItem K n J X m (take (length cells - at) (drop at cells))) → TypedRead J X Y Z m h.S (term h.S h.x (made J X m)) t sort new) where
+      module _ {t sort : ℕ}
+          (a : (h : ReadsItem K n J X m part) → TypedRead J X Y Z m h.S (term h.S h.x (made J X m)) t sort new) where
         read_so : TypedRead J X Y Z m S (term S more_left.first (made J X m)) t sort new
         read_so = a going_item
 
@@ -189,13 +199,13 @@ module _ {K : Names} {n : Sizes} {I W : List ℕ} {old : Mark} {cells : List ℕ
             ∙ ap (λ (ws : List ℕ). ws ++ (t ∷ [])) (g.puts (omega (arith, b)))
 
         pub going_on : (after : List ℕ) → after ≡ elim (ltb k ARGUMENTS) [ true ↦ set node (k + 1) t | false ↦ node ] →
-            {right : Bool} → right ≡ ltb k count && eqb sort (get_or (inputs S.theory c) k 0) → {both : Bool} → both ≡ fits && right → {next : ℕ} → next ≡ behind at (item_at cells at) →
-            Going K n I W old cells c count S xs Y Z after new next (k + 1) both
-        going_on after d s b e =
+            {right : Bool} → right ≡ ltb k count && eqb sort (get_or (inputs S.theory c) k 0) → {both : Bool} → both ≡ fits && right →
+            Going K n I W old cells c count S xs Y Z after new next.at (k + 1) both
+        going_on after d s b =
             record {
               left = more_left.others;
               ids = g.ids ++ (t ∷ []);
-              walk = walk_next first_walk e;
+              walk = walk_next first_walk w.behind;
               reads = reads_term g.reads more_left.first read_so.read.went;
               on = next_on;
               many = length-append g.ids (t ∷ []) ∙ ap (λ (j : ℕ). j + 1) g.many;
@@ -205,7 +215,7 @@ module _ {K : Names} {n : Sizes} {I W : List ℕ} {old : Mark} {cells : List ℕ
               sorts = next_sorts s b;
               counted = g.counted;
               known = g.known;
-              few = omega (arith, g.few, walk_on first_walk e);
+              few = omega (arith, g.few, walk_on first_walk w.behind);
             }
 
   -- nothing is left
@@ -263,5 +273,5 @@ module _ {K : Names} {n : Sizes} {I W : List ℕ} {old : Mark} {cells : List ℕ
         }
 
 -- the cells that are left are no more than all
-pub part_most : (cells : List ℕ) (at : ℕ) → length (take (length cells - at) (drop at cells)) ≤ length cells
-part_most cells at = omega (arith, length-take-le (length cells - at) (drop at cells) (omega (arith, length-drop at cells)))
+pub part_most : {cells part : List ℕ} {at : ℕ} {next : Each} → Here cells part at next → length part ≤ length cells
+part_most {cells} {part} {at} w = omega (arith, item_long cells part at w.is)

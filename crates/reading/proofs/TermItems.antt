@@ -3,7 +3,7 @@ use mathlib.Core.Path.{◌≡◌, refl, sym, ap, ◌∙◌, subst}
 use mathlib.Core.Bool.{Bool, true, false}
 use mathlib.Core.List.{List}
 use Rattle.std.specs.Prelude.{Result}
-use Prim.Native.Nat.{ℕ, ◌+◌, ◌-◌}
+use Prim.Native.Nat.{ℕ, ◌-◌}
 use native.Mathlib.Omega.{arith}
 use lib.ListN.{length, take, drop}
 use Rattle.rules.specs.Lex.{letters}
@@ -14,7 +14,8 @@ use Rattle.rules.specs.Store.{Made}
 use Rattle.rules.specs.State.{State, abbreviated}
 use Rattle.rules.specs.Read.{named, term, compound, judgment}
 use Rattle.sexp.specs.Items.{Holds, item_at}
-use Rattle.sexp.specs.AtomText.{atom_part}
+use Rattle.sexp.specs.WalkLaws.{AtomIs}
+use Rattle.sexp.specs.Each.{ListOf}
 use Rattle.sexp.specs.FirstItem.{AtomFirst, ListFirst, atom_first, list_first, cons_first}
 use Rattle.sexp.specs.declared.items.Item.{Item}
 use Rattle.sexp.specs.declared.items.Item.TheVariants.{Atom, List as Part}
@@ -61,26 +62,21 @@ module _ (S : State) (M : Made) where
 
 -- An atom --------------------------------------------------------------------------------------------------------------------------
 
-module _ {K : Names} {n : Sizes} {I W : List ℕ} {m : Mark} {p : ℕ}
-    (g : ReadsAtom K n I W m p) {end : ℕ} (d : end ≡ p + length (letters (drop p K.text))) where
-  name_is : take (end - p) (drop p K.text) ≡ letters (drop p K.text)
-  name_is = atom_part K.text p end g.inside d
-
+module _ {K : Names} {n : Sizes} {I W : List ℕ} {m : Mark} {p : ℕ} (g : ReadsAtom K n I W m p) {name : List ℕ} (d : name ≡ letters (drop p K.text)) where
   pub atom_abbreviates : {b : Bool} → b ≡ marked (letters (drop p K.text)) → b ≡ true → (r : Result Typed Question) →
-      ((h : ReadsDefs K.text K.symbols K.vars K.defs n I W m) →
-      TypedBy I W I W m m h.S (found 22 (abbreviated h.S.defs (take (end - p) (drop p K.text))) (made I W m)) r) →
+      ((h : ReadsDefs K.text K.symbols K.vars K.defs n I W m) → TypedBy I W I W m m h.S (found 22 (abbreviated h.S.defs name) (made I W m)) r) →
       TypedBy I W I W m m g.S (term g.S (atom p (letters (drop p K.text))) (made I W m)) r
   atom_abbreviates k w r a =
       subst (λ (z : Out Made Tree). TypedBy I W I W m m g.S z r)
-      (ap (λ (bs : List ℕ). found 22 (abbreviated g.S.defs bs) (made I W m)) name_is ∙ sym (term_marked g.S (made I W m) p (letters (drop p K.text)) (sym k ∙ w)))
+      (ap (λ (bs : List ℕ). found 22 (abbreviated g.S.defs bs) (made I W m)) d ∙ sym (term_marked g.S (made I W m) p (letters (drop p K.text)) (sym k ∙ w)))
       (a (reads_defs g.reads))
 
   pub atom_names : {b : Bool} → b ≡ marked (letters (drop p K.text)) → b ≡ false → (Y Z : List ℕ) (new : Mark) (r : Result Typed Question) →
-      ((h : ReadsNames K.theory K.goals K.text K.symbols K.vars n I W m) → TypedBy I W Y Z m new h.S (named h.S (take (end - p) (drop p K.text)) (made I W m)) r) →
+      ((h : ReadsNames K.theory K.goals K.text K.symbols K.vars n I W m) → TypedBy I W Y Z m new h.S (named h.S name (made I W m)) r) →
       TypedBy I W Y Z m new g.S (term g.S (atom p (letters (drop p K.text))) (made I W m)) r
   atom_names k w Y Z new r a =
       subst (λ (z : Out Made Tree). TypedBy I W Y Z m new g.S z r)
-      (ap (λ (bs : List ℕ). named g.S bs (made I W m)) name_is ∙ sym (term_plain g.S (made I W m) p (letters (drop p K.text)) (sym k ∙ w)))
+      (ap (λ (bs : List ℕ). named g.S bs (made I W m)) d ∙ sym (term_plain g.S (made I W m) p (letters (drop p K.text)) (sym k ∙ w)))
       (a (reads_names g.reads))
 
 -- By what it is --------------------------------------------------------------------------------------------------------------------
@@ -105,35 +101,42 @@ module _ {K : Names} {n : Sizes} {I W : List ℕ} {m : Mark} {cells : List ℕ} 
         TypedBy I W Y Z m new g.S (term g.S g.x (made I W m)) r
     term_atomic Y Z new r a = subst (λ (z : Sexp). TypedBy I W Y Z m new g.S (term g.S z (made I W m)) r) (sym atom_x) (a atom_given)
 
-    pub judgment_atom : Stopped I W I W m (judgment g.S g.x (made I W m)) 22 0 m
-    judgment_atom = pure_stopped g.reads.good (ap (λ (z : Sexp). judgment g.S z (made I W m)) atom_x ∙ judgment_no g.S (made I W m) p (letters (drop p K.text)))
-
   module _ {a b : ℕ} (f : item ≡ Part a b) where
     pub item_list : ListFirst K.text cells (cons g.x g.ys) a b
     item_list = list_first g.holds (item_no g.holds) e f
 
-    list_x : g.x ≡ list item_list.inner
-    list_x = cons_first g.x (list item_list.inner) g.ys item_list.others item_list.is
+    pub item_part : ListOf K.text cells g.x (take (b - a) (drop a cells))
+    item_part =
+        record {
+          items = item_list.inner;
+          is = cons_first g.x (list item_list.inner) g.ys item_list.others item_list.is;
+          holds = item_list.holds;
+          shorter = item_list.shorter;
+        }
 
-    abbrev pub list_items : ReadsItems K n I W m (take (b - a) (drop a cells))
-    list_items = record { S = g.S; xs = item_list.inner; reads = g.reads; holds = item_list.holds }
+module _ {K : Names} {n : Sizes} {I W : List ℕ} {m : Mark} {cells : List ℕ} (g : ReadsItem K n I W m cells) where
+  pub judgment_atom : {p : ℕ} → AtomIs K.text g.x p → Stopped I W I W m (judgment g.S g.x (made I W m)) 22 0 m
+  judgment_atom {p} a = pure_stopped g.reads.good (ap (λ (z : Sexp). judgment g.S z (made I W m)) a.is ∙ judgment_no g.S (made I W m) p a.bytes)
+
+  module _ {part : List ℕ} (l : ListOf K.text cells g.x part) where
+    abbrev pub list_items : ReadsItems K n I W m part
+    list_items = record { S = g.S; xs = l.items; reads = g.reads; holds = l.holds }
 
     pub term_compounds : (Y Z : List ℕ) (new : Mark) (r : Result Typed Question) →
-        ((h : ReadsItems K n I W m (take (b - a) (drop a cells))) → TypedBy I W Y Z m new h.S (compound h.S h.xs (made I W m)) r) →
+        ((h : ReadsItems K n I W m part) → TypedBy I W Y Z m new h.S (compound h.S h.xs (made I W m)) r) →
         TypedBy I W Y Z m new g.S (term g.S g.x (made I W m)) r
     term_compounds Y Z new r k =
-        subst (λ (z : Out Made Tree). TypedBy I W Y Z m new g.S z r) (sym (term_list g.S (made I W m) g.x list_x)) (k list_items)
+        subst (λ (z : Out Made Tree). TypedBy I W Y Z m new g.S z r) (sym (term_list g.S (made I W m) g.x l.is)) (k list_items)
 
     -- what `predicate_first` answers, said of the judgment
     pub judgment_opens : {p : ℕ} →
-        ((h : Opens K.theory K.text K.symbols n.symbols (take (b - a) (drop a cells))) →
-        Opened K.text (take (b - a) (drop a cells)) n.symbols h.S (judgment h.S (list h.xs)) p) →
-        Opened K.text (take (b - a) (drop a cells)) n.symbols g.S (judgment g.S g.x) p
+        ((h : Opens K.theory K.text K.symbols n.symbols part) → Opened K.text part n.symbols h.S (judgment h.S (list h.xs)) p) →
+        Opened K.text part n.symbols g.S (judgment g.S g.x) p
     judgment_opens {p} k =
-        subst (λ (z : Sexp). Opened K.text (take (b - a) (drop a cells)) n.symbols g.S (judgment g.S z) p) (sym list_x) (k (opens list_items))
+        subst (λ (z : Sexp). Opened K.text part n.symbols g.S (judgment g.S z) p) (sym l.is) (k (opens list_items))
 
     pub judgment_unopened : {q d : ℕ} →
-        ((h : Opens K.theory K.text K.symbols n.symbols (take (b - a) (drop a cells))) → (M : Made) → judgment h.S (list h.xs) M ≡ refuse q d M) →
+        ((h : Opens K.theory K.text K.symbols n.symbols part) → (M : Made) → judgment h.S (list h.xs) M ≡ refuse q d M) →
         Stopped I W I W m (judgment g.S g.x (made I W m)) q d m
     judgment_unopened k =
-        pure_stopped g.reads.good (ap (λ (z : Sexp). judgment g.S z (made I W m)) list_x ∙ k (opens list_items) (made I W m))
+        pure_stopped g.reads.good (ap (λ (z : Sexp). judgment g.S z (made I W m)) l.is ∙ k (opens list_items) (made I W m))

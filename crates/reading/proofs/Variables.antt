@@ -13,7 +13,8 @@ use Rattle.rules.specs.Sexp.{Sexp, Sexps, atom, list, cons}
 use Rattle.rules.specs.State.{Var}
 use Rattle.rules.specs.TheoryTables.{filled}
 use Rattle.sexp.specs.Items.{Holds, item_at, behind}
-use Rattle.sexp.specs.WalkLaws.{Walk, walk_start, walk_over, ListIs}
+use Rattle.sexp.specs.WalkLaws.{Walk, walk_start, walk_over}
+use Rattle.sexp.specs.Each.{ListOf}
 use Rattle.sexp.specs.FoundLaws.{found_at, found_missing}
 use Rattle.terms.specs.Sets.{holds, plus}
 use Rattle.terms.specs.Laws.Sets.{holds_zero}
@@ -143,18 +144,18 @@ module _ {goals text vars cells : List ℕ} {count : ℕ} (g : VarsItems goals t
 
 -- A list among items -----------------------------------------------------------------------------------------------------------------------
 
-module _ {goals text vars cells : List ℕ} {count : ℕ} (g : VarsItem goals text vars count cells) {a b : ℕ} (l : ListIs text cells g.x a b) where
-  pub items_inside : VarsItems goals text vars count (take (b - a) (drop a cells))
+module _ {goals text vars cells : List ℕ} {count : ℕ} (g : VarsItem goals text vars count cells) {part : List ℕ} (l : ListOf text cells g.x part) where
+  pub items_inside : VarsItems goals text vars count part
   items_inside = record { S = g.S; xs = l.items; vars_are = g.vars_are; holds = l.holds }
 
   pub vars_inside : (before out : List ℕ) (r : Option ℕ) →
-      ((k : VarsItems goals text vars count (take (b - a) (drop a cells))) → VarsAs k.S.vars (list k.xs) before out r) →
+      ((k : VarsItems goals text vars count part) → VarsAs k.S.vars (list k.xs) before out r) →
       VarsAs g.S.vars g.x before out r
   unfolding items_inside
   vars_inside before out r h = subst (λ (z : Sexp). VarsAs g.S.vars z before out r) (sym l.is) (h items_inside)
 
   -- it is read, or refused: then the cells, which were zero before, are cleared
-  module _ (out : List ℕ) (r : Option ℕ) (h : (k : VarsItems goals text vars count (take (b - a) (drop a cells))) → VarsAs k.S.vars (list k.xs) out out r) where
+  module _ (out : List ℕ) (r : Option ℕ) (h : (k : VarsItems goals text vars count part) → VarsAs k.S.vars (list k.xs) out out r) where
     pub vars_some : (before : List ℕ) → is_some r ≡ true → VarsAs g.S.vars g.x before out r
     vars_some before e = go r (vars_inside out out r h) e
       where

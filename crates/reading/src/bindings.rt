@@ -1,4 +1,5 @@
-// Bindings `(VAR TERM)`, each variable once: a map with a cell for each variable, 0 or the number of its term with 1 added.
+// Bindings `(VAR TERM)`, each variable once: a map with a cell for each variable, 0 or the number of its term with 1 added, as `substitute` of
+// `terms` takes it, whose cells C lends (`tariff_substitute`).
 ghost use Rattle.std.specs.Prelude.{◌≡◌, [], replicate};
 ghost use Rattle.rules.specs.Limits.{VARIABLES};
 ghost use Rattle.rules.specs.Reference.{binding, bindings};
@@ -8,10 +9,9 @@ ghost use Rattle.reading.specs.Given.{ReadsItem, ReadsItems};
 ghost use Rattle.reading.specs.Answers.{PairAs, BindingsAs};
 
 use crate::reader::Reader;
-use cells::clear;
+use cells::or_cleared;
 use questions::Question;
 use sexp::items;
-use sexp::items::Item;
 use state::vars::var_sort;
 use terms::store::Store;
 
@@ -30,16 +30,15 @@ impl Reader<'_> {
         ensures pair_as { (g : ReadsItem (names_of self.now) self.now.n store.old.index.now store.old.words.now store.old.mark cells.now) →
             PairAs store.old store.new (binding g.S g.x (made_of store.old)) result }
     {
-        let Item::List(a, b) = items::item_at(cells, 0) else {
+        let Some(inner) = items::list(cells, 0) else {
             return Err(Question::Binding);
         };
-        let inner = &cells[a..b];
         if items::count(inner) != 2 {
             return Err(Question::Binding);
         }
         let variable = self.variable(inner).ok_or(Question::Binding)?;
-        let next = items::after(inner, 0);
-        let term = self.term_of(store, &inner[next..], var_sort(self.vars, variable))?;
+        let second = items::from(inner, 1);
+        let term = self.term_of(store, second, var_sort(self.vars, variable))?;
         Ok(Pair { variable, term })
     }
 
@@ -80,9 +79,6 @@ impl Reader<'_> {
             BindingsAs store.old store.new (bindings g.S g.xs [] (made_of store.old)) map.old map.new result }
     {
         let each = self.binding_each(store, cells, map);
-        if each.is_err() {
-            clear(map);
-        }
-        each
+        or_cleared(each, map)
     }
 }

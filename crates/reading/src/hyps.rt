@@ -9,11 +9,11 @@ ghost use Rattle.reading.specs.Answers.{HypsAs};
 ghost use Rattle.reading.specs.Tested.{Asks, Tests};
 
 use crate::reader::Reader;
-use cells::clear;
+use cells::or_cleared;
 use facts::Fact;
 use questions::Question;
+use rules::FACTWORDS;
 use sexp::items;
-use sexp::items::Item;
 use state::recorded::{is_assumed, is_plain};
 use terms::sets::insert;
 
@@ -24,7 +24,7 @@ impl Reader<'_> {
         facts: &[Fact],
         cells: &[u32],
         passes: F,
-        set: &mut [u64],
+        set: &mut [u64; FACTWORDS],
     ) -> Result<(), Question>
         requires items { FactsItems self.now.text.now (fact_rows facts.now) self.now.n cells.now × (set.old ≡ replicate FACTWORDS 0) }
         requires callable { Asks F.Fn passes facts.now }
@@ -47,25 +47,27 @@ impl Reader<'_> {
         facts: &[Fact],
         cells: &[u32],
         passes: F,
-        set: &mut [u64],
+        set: &mut [u64; FACTWORDS],
     ) -> Result<(), Question>
         requires item { FactsItem self.now.text.now (fact_rows facts.now) self.now.n cells.now × (set.old ≡ replicate FACTWORDS 0) }
         requires callable { Asks F.Fn passes facts.now }
         ensures { (g : FactsItem self.now.text.now (fact_rows facts.now) self.now.n cells.now) (p : StateFact → Bool) → Tests F.Fn passes facts.now g.S p →
             HypsAs p g.S g.x set.old set.new result }
     {
-        let Item::List(a, b) = items::item_at(cells, 0) else {
+        let Some(inner) = items::list(cells, 0) else {
             return Err(Question::Earlier);
         };
-        let each = self.hyp_each(facts, &cells[a..b], passes, set);
-        if each.is_err() {
-            clear(set);
-        }
-        each
+        let each = self.hyp_each(facts, inner, passes, set);
+        or_cleared(each, set)
     }
 
     // Plain hypotheses.
-    pub fn plain_hyps(&self, facts: &[Fact], cells: &[u32], set: &mut [u64]) -> Result<(), Question>
+    pub fn plain_hyps(
+        &self,
+        facts: &[Fact],
+        cells: &[u32],
+        set: &mut [u64; FACTWORDS],
+    ) -> Result<(), Question>
         requires { FactsItem self.now.text.now (fact_rows facts.now) self.now.n cells.now × (set.old ≡ replicate FACTWORDS 0) }
         ensures { (g : FactsItem self.now.text.now (fact_rows facts.now) self.now.n cells.now) →
             HypsAs is_plain g.S g.x set.old set.new result }
@@ -74,7 +76,12 @@ impl Reader<'_> {
     }
 
     // Any hypotheses.
-    pub fn any_hyps(&self, facts: &[Fact], cells: &[u32], set: &mut [u64]) -> Result<(), Question>
+    pub fn any_hyps(
+        &self,
+        facts: &[Fact],
+        cells: &[u32],
+        set: &mut [u64; FACTWORDS],
+    ) -> Result<(), Question>
         requires { FactsItem self.now.text.now (fact_rows facts.now) self.now.n cells.now × (set.old ≡ replicate FACTWORDS 0) }
         ensures { (g : FactsItem self.now.text.now (fact_rows facts.now) self.now.n cells.now) →
             HypsAs (λ f. f.assumed) g.S g.x set.old set.new result }

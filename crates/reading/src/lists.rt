@@ -9,16 +9,15 @@ ghost use Rattle.reading.specs.Given.{VarsItem, VarsItems, ReadsItem, ReadsItems
 ghost use Rattle.reading.specs.Answers.{VarsAs, JudgmentsAs};
 
 use crate::reader::Reader;
-use cells::clear;
+use cells::{clear, or_cleared};
 use questions::Question;
 use rules::VARIABLEWORDS;
 use sexp::items;
-use sexp::items::Item;
 use terms::sets::{has, insert};
 use terms::store::Store;
 
 // Cell k, as far as there is one.
-fn put_within(out: &mut [u32], k: usize, t: usize)
+pub(crate) fn put_within(out: &mut [u32], k: usize, t: usize)
     requires { t < 2 ^ 32 }
     ensures { out.new ≡ set out.old k t }
 {
@@ -28,13 +27,13 @@ fn put_within(out: &mut [u32], k: usize, t: usize)
 }
 
 impl Reader<'_> {
-    // The variables that the items name, each once, come into the cells, which are zero before; what is answered is how many they are.
+    // The variables that the items name, each once, come into the cells, which are zero before; what is answered is how many they are. The cells are
+    // lent: no heap, and the core stands on `std` alone, which has no vector without one.
     fn vars_each(&self, cells: &[u32], out: &mut [u32]) -> Option<usize>
         requires { VarsItems self.now.goals.now self.now.text.now self.now.vars.now self.now.n.vars cells.now × (out.old ≡ replicate VARIABLES 0) }
         ensures { (g : VarsItems self.now.goals.now self.now.text.now self.now.vars.now self.now.n.vars cells.now) →
             VarsAs g.S.vars (list g.xs) out.new out.new result }
     {
-        // an array, since there is no heap and nothing of the core allocates
         let mut seen = [0u64; VARIABLEWORDS];
         // `k` is answered: with `enumerate` the items would be counted by a second walk, `items::count`
         let mut k = 0;
@@ -57,10 +56,9 @@ impl Reader<'_> {
         ensures { (g : VarsItem self.now.goals.now self.now.text.now self.now.vars.now self.now.n.vars cells.now) →
             VarsAs g.S.vars g.x out.old out.new result }
     {
-        let Item::List(a, b) = items::item_at(cells, 0) else {
-            return None;
-        };
-        let count = self.vars_each(&cells[a..b], out);
+        let inner = items::list(cells, 0)?;
+        let count = self.vars_each(inner, out);
+        // an option, which would have to become a `Result` and an option again for `or_cleared`
         if count.is_none() {
             clear(out);
         }
@@ -105,13 +103,10 @@ impl Reader<'_> {
         ensures judgments_as { (g : ReadsItem (names_of self.now) self.now.n store.old.index.now store.old.words.now store.old.mark cells.now) →
             JudgmentsAs store.old store.new (judgments g.S g.x (made_of store.old)) out.old out.new result }
     {
-        let Item::List(a, b) = items::item_at(cells, 0) else {
+        let Some(inner) = items::list(cells, 0) else {
             return Err(Question::Spelling);
         };
-        let count = self.judgment_each(store, &cells[a..b], out);
-        if count.is_err() {
-            clear(out);
-        }
-        count
+        let count = self.judgment_each(store, inner, out);
+        or_cleared(count, out)
     }
 }

@@ -20,7 +20,11 @@ pub struct Reader<'a> {
     pub n: Sizes,
 }
 
-// Those of a check.
+// That the tables stand for a state, and cells for its items (`ReadsItem`), stands in each contract, and no type says it: it is said of the reader, the
+// store and the cells together. These are lent apart, since reading makes terms in the store and goes on in parts of the cells: a struct of the three would
+// be made anew at each part, and its invariant be shown again at each term that is made.
+
+// Those of a check. Field by field: names need five of the seven that `Given` has, and a `Given` in the reader would be one step more at each of them.
 pub fn reader_of<'a>(given: &Given<'a>, board: &'a Board<'_>) -> Reader<'a>
     ensures { result ≡ reader_of given.now board.now }
 {

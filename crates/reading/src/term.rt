@@ -18,15 +18,17 @@ ghost use Rattle.reading.specs.Given.{ReadsTerm, ReadsDefs, ReadsNames, ReadsIte
 ghost use Rattle.reading.specs.Answers.{ReadAs, TypedBy, TypedAs, ArgumentsAs};
 ghost use Rattle.reading.specs.Heads.{ReadsAtom, Opens, OpenedAs};
 
+use crate::lists::put_within;
 use crate::reader::Reader;
 use kernel::atoms::marked;
-use kernel::readers::{arity, input, output};
+use kernel::names::SymbolTable;
 use questions::Question;
-use rules::{NODE, SYMBOLS};
+use rules::NODE;
 use sexp::items::Item;
 use sexp::{items, lex};
 use state::defs::def_named;
 use state::vars::var_sort;
+use terms::heads::{Head, head_of};
 use terms::store::{Store, Terms};
 
 // A term's number, and its sort.
@@ -60,18 +62,16 @@ fn put_argument(node: &mut [u32], k: usize, t: usize)
     requires { (length node.old ≡ NODE) × (t < TERMS) }
     ensures { node.new ≡ elim (ltb k ARGUMENTS) [ true ↦ set node.old (k + 1) t | false ↦ node.old ] }
 {
-    if k < rules::ARGUMENTS {
-        node[k + 1] = t as u32;
-    }
+    put_within(&mut node[1..], k, t);
 }
 
 // Whether symbol c, which takes `count` arguments, takes a term of that sort as argument k.
-fn takes(inputs: &[u32], c: usize, count: usize, k: usize, sort: usize) -> bool
-    requires { k < count → KnownInput inputs.now c k }
-    ensures { (T : Theory) (text symbols : List ℕ) (known : ℕ) → SymbolsHeld text symbols inputs.now known T.symbols → c < known → count ≡ length (inputs_of T c) →
+fn takes(known: &SymbolTable<'_>, c: usize, count: usize, k: usize, sort: usize) -> bool
+    requires { k < count → KnownInput known.now.inputs.now c k }
+    ensures { (T : Theory) (text symbols : List ℕ) (many : ℕ) → SymbolsHeld text symbols known.now.inputs.now many T.symbols → c < many → count ≡ length (inputs_of T c) →
         result ≡ ltb k count && eqb sort (get_or (inputs_of T c) k 0) }
 {
-    k < count && sort == input(inputs, c, k)
+    k < count && sort == known.input(c, k)
 }
 
 impl Reader<'_> {
@@ -81,12 +81,11 @@ impl Reader<'_> {
         ensures { (g : ReadsTerm self.now.symbols.now self.now.vars.now terms.now.index.now terms.now.words.now id) →
             result ≡ sort_of g.S.theory g.S.vars (tree terms.now.index.now terms.now.words.now g.mark id) }
     {
-        let word = terms.head(id);
-        if word < SYMBOLS {
+        match head_of(terms.node(id)[0]) {
             // by hand: `output` asks that the theory has the symbol, which is not asked here
-            return self.symbols[4 * word] as usize;
+            Head::Symbol(c) => self.symbols[4 * c] as usize,
+            Head::Variable(v) => var_sort(self.vars, v),
         }
-        var_sort(self.vars, word - SYMBOLS)
     }
 
     // The term that a marked atom abbreviates.
@@ -95,9 +94,8 @@ impl Reader<'_> {
         ensures { (g : ReadsDefs self.now.text.now self.now.symbols.now self.now.vars.now self.now.defs.now self.now.n terms.now.index.now terms.now.words.now terms.now.mark) →
             let t = terms.now in TypedBy t.index.now t.words.now t.index.now t.words.now t.mark t.mark g.S (found 22 (abbreviated g.S.defs name.now) (terms_made t)) result }
     {
-        let Some(term) = def_named(self.text, self.defs, self.n.defs, name) else {
-            return Err(Question::Spelling);
-        };
+        let found = def_named(self.text, self.defs, self.n.defs, name);
+        let term = found.ok_or(Question::Spelling)?;
         let sort = self.sort_of(terms, term);
         Ok(Typed { term, sort })
     }
@@ -114,14 +112,13 @@ impl Reader<'_> {
             let sort = var_sort(self.vars, v);
             return Ok(Typed { term, sort });
         }
-        let Some(c) = self.symbol_table().constructor_named(name) else {
-            return Err(Question::Spelling);
-        };
-        if arity(self.symbols, c) != 0 {
+        let known = self.symbol_table();
+        let c = known.constructor_named(name).ok_or(Question::Spelling)?;
+        if known.arity(c) != 0 {
             return Err(Question::Sorting);
         }
         let node = [c as u32];
-        keep_typed(store, &node, output(self.symbols, c))
+        keep_typed(store, &node, known.output(c))
     }
 
     // The term that the atom at a place spells.
@@ -131,15 +128,14 @@ impl Reader<'_> {
         ensures typed_as { (g : ReadsAtom (names_of self.now) self.now.n store.old.index.now store.old.words.now store.old.mark start) →
             TypedAs store.old store.new g.S (term g.S (atom start (letters (drop start self.now.text.now))) (made_of store.old)) result }
     {
-        let end = lex::atom_end(self.text, start);
-        let name = &self.text[start..end];
+        let name = lex::atom(self.text, start);
         if marked(self.text, start) {
             return self.abbreviation(&store.terms(), name);
         }
         self.named(store, name)
     }
 
-    // The term that the first item spells.
+    // The term that the first item spells. An atom is wanted by its place too, so that with `items::list` the item would be looked at twice.
     #[cycle(arguments_compound_term)]
     pub fn term(&self, store: &mut Store<'_>, cells: &[u32]) -> Result<Typed, Question>
         requires { ReadsItem (names_of self.now) self.now.n store.old.index.now store.old.words.now store.old.mark cells.now }
@@ -159,12 +155,9 @@ impl Reader<'_> {
         ensures { (g : Opens self.now.theory.now self.now.text.now self.now.symbols.now self.now.n.symbols cells.now) →
             OpenedAs self.now.text.now cells.now self.now.n.symbols g.S (compound g.S g.xs) result }
     {
-        let Some(name) = items::head(self.text, cells) else {
-            return Err(Question::Spelling);
-        };
-        let Some(c) = self.symbol_table().constructor_named(name) else {
-            return Err(Question::Spelling);
-        };
+        let name = items::head(self.text, cells).ok_or(Question::Spelling)?;
+        let known = self.symbol_table();
+        let c = known.constructor_named(name).ok_or(Question::Spelling)?;
         if cells.len() == 1 {
             return Err(Question::Sorting);
         }
@@ -177,9 +170,7 @@ impl Reader<'_> {
         ensures { (g : Opens self.now.theory.now self.now.text.now self.now.symbols.now self.now.n.symbols cells.now) →
             OpenedAs self.now.text.now cells.now self.now.n.symbols g.S (judgment g.S (list g.xs)) result }
     {
-        let Some(name) = items::head(self.text, cells) else {
-            return Err(Question::Spelling);
-        };
+        let name = items::head(self.text, cells).ok_or(Question::Spelling)?;
         self.symbol_table()
             .predicate_named(name)
             .ok_or(Question::Spelling)
@@ -194,10 +185,10 @@ impl Reader<'_> {
             TypedAs store.old store.new g.S (compound g.S g.xs (made_of store.old)) result }
     {
         let c = self.constructor_first(cells)?;
-        // as long as the longest node: there is no heap, and nothing of the core allocates
+        // as long as the longest node: no heap, and the core stands on `std` alone, which has no vector without one
         let mut node = [0u32; NODE];
         let len = self.arguments(store, &cells[1..], c, &mut node)?;
-        keep_typed(store, &node[..len], output(self.symbols, c))
+        keep_typed(store, &node[..len], self.symbol_table().output(c))
     }
 
     // The terms that the items spell, as the arguments of symbol c. They must be as many as its inputs and each of its sort: then the node is that of c
@@ -216,14 +207,15 @@ impl Reader<'_> {
         ensures arguments_as { (g : ReadsItems (names_of self.now) self.now.n store.old.index.now store.old.words.now store.old.mark cells.now) →
             ArgumentsAs store.old store.new g.S c node.new (terms g.S g.xs (made_of store.old)) result }
     {
-        let count = arity(self.symbols, c);
+        let known = self.symbol_table();
+        let count = known.arity(c);
         put_head(node, c);
         let mut k = 0;
         let mut fits = true;
         for item in items::all(cells) {
             let typed = self.term(store, item)?;
             put_argument(node, k, typed.term);
-            fits &= takes(self.inputs, c, count, k, typed.sort);
+            fits &= takes(&known, c, count, k, typed.sort);
             k += 1;
         }
         if !fits || k != count {
@@ -258,10 +250,9 @@ impl Reader<'_> {
         ensures read_as { (g : ReadsItem (names_of self.now) self.now.n store.old.index.now store.old.words.now store.old.mark cells.now) →
             ReadAs store.old store.new (judgment g.S g.x (made_of store.old)) result }
     {
-        let Item::List(a, b) = items::item_at(cells, 0) else {
+        let Some(inner) = items::list(cells, 0) else {
             return Err(Question::Spelling);
         };
-        let inner = &cells[a..b];
         let p = self.predicate_first(inner)?;
         // an array, as in `compound`
         let mut node = [0u32; NODE];

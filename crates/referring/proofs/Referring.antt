@@ -3,25 +3,24 @@ use mathlib.Core.Path.{◌≡◌, refl, sym, ap, ◌∙◌, subst}
 use mathlib.Core.Bool.{true, false}
 use Rattle.std.specs.Prelude.{Option, Some as some, None as nothing, Result}
 use mathlib.Core.List.{List, []}
-use Prim.Native.Nat.{ℕ, ◌-◌, ◌<◌, ◌≤◌}
+use Prim.Native.Nat.{ℕ, ◌-◌, ◌<◌}
 use native.Mathlib.Omega.{arith}
-use lib.ListN.{length, get_or, take, drop, replicate, length-replicate}
+use lib.ListN.{length, get_or, drop, replicate, length-replicate}
 use Rattle.rules.specs.Limits.{TERMS}
 use Rattle.rules.specs.Out.{Out, ok, refuse, then, ask, found}
 use Rattle.rules.specs.Sexp.{Sexp, Sexps, atom, cons, item, rest}
-use Rattle.rules.specs.Laws.Sexp.{rest_none}
 use Rattle.rules.specs.Tree.{Tree, var, sub}
 use Rattle.rules.specs.Store.{Made, substitute}
 use Rattle.rules.specs.Unify.{Binding, along}
 use Rattle.rules.specs.State.{State, Fact, is_empty}
 use Rattle.rules.specs.Read.{index}
 use Rattle.rules.specs.Reference.{Ref, bindings, instance, reference}
-use Rattle.sexp.specs.Items.{Holds, item_at, behind}
-use Rattle.sexp.specs.ItemLaws.{at_inside}
-use Rattle.sexp.specs.WalkLaws.{ListIs, walk_start, walk_atom, walk_list}
-use Rattle.sexp.specs.FirstItem.{ItemFirst, none_left, first_of, first_item, holds_first}
-use Rattle.sexp.specs.declared.items.Item.{Item}
-use Rattle.sexp.specs.declared.items.Item.TheVariants.{Atom, List as Part}
+use Rattle.sexp.specs.Encode.{encodes}
+use Rattle.sexp.specs.Items.{Holds, item_at, place}
+use Rattle.sexp.specs.WalkLaws.{AtomIs}
+use Rattle.sexp.specs.Each.{ListOf}
+use Rattle.sexp.specs.FirstItem.{none_left, first_item, holds_first}
+use Rattle.referring.specs.Laws.Behind.{from_holds}
 use Rattle.terms.specs.declared.store.Mark.{Mark}
 use Rattle.terms.specs.Table.{made, tree, Stored, Refused}
 use Rattle.terms.specs.Subst.{replacement, substituted, Replaceable}
@@ -136,27 +135,15 @@ module _ {K : Names} {facts : List ℕ} {n : Sizes} {I W : List ℕ} {m : Mark} 
   unfolding index_in item
   instance_empty e = instance_unread (ap (λ (zs : Sexps). index_in (item zs 0)) (none_left g.holds e))
 
+  -- the bindings are behind the first item
+  module _ {behind : List ℕ} (e : (ys : Sexps) → cells ≡ encodes ys → behind ≡ drop (place ys 1) cells) where
+    abbrev pub rest_given : ReadsItems K n I W m behind
+    rest_given = record { S = g.S; xs = rest g.xs 1; reads = g.refers.reads; holds = from_holds g.holds 1 e }
+
   module _ (l : length cells ≡ 0 → ⊥) where
     -- what the first item is given
     pub instance_first : FirstItem K.text cells
     instance_first = let f = first_item (item_at cells 0) g.holds l refl in record { x = f.x; ys = f.ys; holds = holds_first f g.holds }
-
-    -- the bindings are behind it
-    module _ {next : ℕ} (e : next ≡ behind 0 (item_at cells 0)) where
-      first : ItemFirst K.text cells g.xs (item_at cells 0) next
-      first = first_of (item_at cells 0) next g.holds l refl e
-
-      pub next_high : next ≤ length cells
-      next_high = first.high
-
-      pub rest_holds : Holds K.text (take (length cells - next) (drop next cells)) (rest g.xs 1)
-      unfolding rest
-      rest_holds =
-          subst (λ (zs : Sexps). Holds K.text (take (length cells - next) (drop next cells)) zs)
-          (sym (ap (λ (zs : Sexps). rest zs 1) first.is ∙ rest_none first.ys)) first.rest
-
-      abbrev pub rest_given : ReadsItems K n I W m (take (length cells - next) (drop next cells))
-      rest_given = record { S = g.S; xs = rest g.xs 1; reads = g.refers.reads; holds = rest_holds }
 
     -- what is said of it, of the first of the items
     at_first : (P : Option ℕ → Type 0) → ((x : Sexp) (ys : Sexps) → Holds K.text cells (cons x ys) → P (index_in x)) → P (index_in (item g.xs 0))
@@ -200,15 +187,15 @@ module _ {K : Names} {facts : List ℕ} {n : Sizes} {I W : List ℕ} {m : Mark} 
   opens_asks k = fact_asks g.refers.recorded k
 
   -- Behind the bindings
-  module _ {i : ℕ} (o : Opens n I W m g.S g.xs i) (l : length cells ≡ 0 → ⊥) {next : ℕ} (e : next ≡ behind 0 (item_at cells 0)) (J X map : List ℕ) (k : Mark) where
+  module _ {i : ℕ} (o : Opens n I W m g.S g.xs i) {behind : List ℕ} (e : (ys : Sexps) → cells ≡ encodes ys → behind ≡ drop (place ys 1) cells) (J X map : List ℕ) (k : Mark) where
     pub instance_unbound : {before : List ℕ} {q d : ℕ} →
-        ((h : ReadsItems K n I W m (take (length cells - next) (drop next cells))) → Stopped I W J X m (bindings h.S h.xs [] (made I W m)) q d k × (map ≡ before)) →
+        ((h : ReadsItems K n I W m behind) → Stopped I W J X m (bindings h.S h.xs [] (made I W m)) q d k × (map ≡ before)) →
         Stopped I W J X m (instance g.S g.xs (made I W m)) q d k
-    instance_unbound b = on_no _ o.on (b (rest_given l e)).0
+    instance_unbound b = on_no _ o.on (b (rest_given e)).0
 
-    module _ (b : (h : ReadsItems K n I W m (take (length cells - next) (drop next cells))) → BindingsRead I W J X m (bindings h.S h.xs [] (made I W m)) map k) where
+    module _ (b : (h : ReadsItems K n I W m behind) → BindingsRead I W J X m (bindings h.S h.xs [] (made I W m)) map k) where
       are_bound : BindingsRead I W J X m (bindings g.S (rest g.xs 1) [] (made I W m)) map k
-      are_bound = b (rest_given l e)
+      are_bound = b (rest_given e)
 
       module _ {t : ℕ} (j : t ≡ cell 6 facts i 0) where
         term_there : t < k.terms
@@ -261,27 +248,19 @@ module _ {K : Names} {facts : List ℕ} {n : Sizes} {I W : List ℕ} {m : Mark} 
 -- One or the other -------------------------------------------------------------------------------------------------------------------------
 
 module _ {K : Names} {facts : List ℕ} {n : Sizes} {I W : List ℕ} {m : Mark} {cells : List ℕ} (g : RefersItem K facts n I W m cells) where
-  pub reference_cell : 0 < length cells
-  reference_cell = at_inside (walk_start g.holds).here
+  pub reference_atom : (p : ℕ) × AtomIs K.text g.x p → (r : Result Referred Question) →
+      ((h : BareItem K.text facts n m cells) (p : ℕ) (bs : List ℕ) → h.x ≡ atom p bs →
+      ReferredBy h.index h.words h.index h.words m m h.S (reference h.S h.x (made h.index h.words m)) r) →
+      ReferredBy I W I W m m g.S (reference g.S g.x (made I W m)) r
+  reference_atom q r a = a (refers_bare g.refers g.holds) q.0 q.1.bytes q.1.is
 
-  module _ {thing : Item} (e : thing ≡ item_at cells 0) where
-    pub reference_atom : {p : ℕ} → thing ≡ Atom p → (r : Result Referred Question) →
-        ((h : BareItem K.text facts n m cells) (p : ℕ) (bs : List ℕ) → h.x ≡ atom p bs →
-        ReferredBy h.index h.words h.index h.words m m h.S (reference h.S h.x (made h.index h.words m)) r) →
-        ReferredBy I W I W m m g.S (reference g.S g.x (made I W m)) r
-    reference_atom {p} f r a = let q = walk_atom (walk_start g.holds) e f in a (refers_bare g.refers g.holds) p q.bytes q.is
+  module _ {part : List ℕ} (l : ListOf K.text cells g.x part) where
+    abbrev pub inner_given : RefersItems K facts n I W m part
+    inner_given = refers_items g.refers l.holds
 
-    module _ {a b : ℕ} (f : thing ≡ Part a b) where
-      pub reference_list : ListIs K.text cells g.x a b
-      reference_list = walk_list (walk_start g.holds) e f
-
-      pub inner_given : RefersItems K facts n I W m (take (b - a) (drop a cells))
-      inner_given = refers_items g.refers reference_list.holds
-
-      pub reference_instance : (J X : List ℕ) (new : Mark) (r : Result Referred Question) →
-          ((h : RefersItems K facts n I W m (take (b - a) (drop a cells))) → ReferredBy I W J X m new h.S (instance h.S h.xs (made I W m)) r) →
-          ReferredBy I W J X m new g.S (reference g.S g.x (made I W m)) r
-      unfolding reference
-      reference_instance J X new r k =
-          subst (λ (z : Sexp). ReferredBy I W J X m new g.S (reference g.S z (made I W m)) r) (sym reference_list.is)
-          (k (refers_items g.refers reference_list.holds))
+    pub reference_instance : (J X : List ℕ) (new : Mark) (r : Result Referred Question) →
+        ((h : RefersItems K facts n I W m part) → ReferredBy I W J X m new h.S (instance h.S h.xs (made I W m)) r) →
+        ReferredBy I W J X m new g.S (reference g.S g.x (made I W m)) r
+    unfolding reference
+    reference_instance J X new r k =
+        subst (λ (z : Sexp). ReferredBy I W J X m new g.S (reference g.S z (made I W m)) r) (sym l.is) (k (refers_items g.refers l.holds))

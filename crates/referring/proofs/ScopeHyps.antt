@@ -9,7 +9,7 @@ use native.Mathlib.Numerals.{add-one}
 use lib.ListN.{length, get_or, take, drop, replicate, drop_of_length-le}
 use lib.Seq.{sets, sets-eq, drop-cons}
 use Rattle.std.proofs.lemmas.List.{take_at}
-use Rattle.rules.specs.Limits.{FACTS, FACTWORDS, TERMWORDS, VARIABLEWORDS}
+use Rattle.rules.specs.Limits.{FACTS, FACTWORDS}
 use Rattle.rules.specs.Find.{Set, empty, union, rising}
 use Rattle.rules.specs.State.{Fact, free, free_at, hyp_vars}
 use Rattle.rules.specs.Laws.Theory.{all_at}
@@ -68,24 +68,20 @@ pub record Joining (facts lists : List ℕ) (n : Sizes) (I W : List ℕ) (m : Ma
   pub left : (g : Recalls facts lists n I W m)
       → union (holds set) (hyp_vars g.S.facts (drop k (rising n.facts (holds hyps)))) ≡ union (holds set₀) (hyp_vars g.S.facts (rising n.facts (holds hyps)))
   pub visits : Seen I W m (holds seen) (holds set)
-  pub long_seen : length seen ≡ length seen₀
-  pub long_set : length set ≡ length set₀
 
 pub joining_begins : {facts lists : List ℕ} {n : Sizes} {I W : List ℕ} {m : Mark} {hyps seen set : List ℕ} → Seen I W m (holds seen) (holds set)
     → Joining facts lists n I W m hyps seen set seen set 0
-joining_begins s = record { left = λ g. refl; visits = s; long_seen = refl; long_set = refl }
+joining_begins s = record { left = λ g. refl; visits = s }
 
 module _ {facts lists : List ℕ} {n : Sizes} {I W : List ℕ} {m : Mark} {hyps seen₀ set₀ seen set : List ℕ} {k : ℕ} (v : Joining facts lists n I W m hyps seen₀ set₀ seen set k)
     (p : Recalls facts lists n I W m) (u : Under n.facts (holds hyps)) (f : length hyps ≡ FACTWORDS) {ids : List ℕ}
     (w : ids ≡ rising (64 * length hyps) (holds hyps)) where
-  pub joining_ready : length seen₀ ≡ TERMWORDS → length set₀ ≡ VARIABLEWORDS → k < length ids
-      → Recalls facts lists n I W m × (get_or ids k 0 < n.facts) × (length seen ≡ TERMWORDS) × (length set ≡ VARIABLEWORDS)
-  joining_ready a b h = (p, member_below p hyps u f w h, v.long_seen ∙ a, v.long_set ∙ b)
+  pub joining_ready : k < length ids → Recalls facts lists n I W m × (get_or ids k 0 < n.facts)
+  joining_ready h = (p, member_below p hyps u f w h)
 
-  pub joining_on : {seen' set' : List ℕ} → k < length ids → length seen' ≡ length seen → length set' ≡ length set
-      → ((g : Recalls facts lists n I W m) → Gathered I W m (free (fact_of g.S (get_or ids k 0))) (holds set) (holds seen') (holds set'))
+  pub joining_on : {seen' set' : List ℕ} → k < length ids → ((g : Recalls facts lists n I W m) → Gathered I W m (free (fact_of g.S (get_or ids k 0))) (holds set) (holds seen') (holds set'))
       → Joining facts lists n I W m hyps seen₀ set₀ seen' set' (k + 1)
-  joining_on {seen'} {set'} h x y j = record { left = left; visits = (j p).visits; long_seen = x ∙ v.long_seen; long_set = y ∙ v.long_set }
+  joining_on {seen'} {set'} h j = record { left = left; visits = (j p).visits }
     where
       left : (g : Recalls facts lists n I W m)
           → union (holds set') (hyp_vars g.S.facts (drop (k + 1) (rising n.facts (holds hyps)))) ≡ union (holds set₀) (hyp_vars g.S.facts (rising n.facts (holds hyps)))

@@ -4,13 +4,17 @@ use mathlib.Core.Bool.{Bool, true, false}
 use mathlib.Core.List.{List}
 use Prim.Native.Nat.{ℕ, zero, suc, ◌+◌, ◌-◌, ◌*◌, ◌≤◌, ◌<◌}
 use native.Mathlib.Omega.{arith}
+use lib.Dec.{ltb}
 use lib.ListN.{length, replicate}
+use borrow.Author.Tests.{ltb-true, ltb-false}
+use Rattle.std.specs.Prelude.{Option, Some as some, None as nothing, MatchOption}
+use Rattle.std.specs.Bool.{then_some}
 use Rattle.rules.specs.Limits.{VARIABLEWORDS}
 use Rattle.rules.specs.Find.{Set, union, minus, rising, least_from, least}
 use Rattle.rules.specs.Tree.{variables}
 use Rattle.rules.specs.State.{hyp_vars}
 use Rattle.terms.specs.declared.store.Mark.{Mark}
-use Rattle.terms.specs.Sets.{holds}
+use Rattle.terms.specs.Sets.{holds, counted_from_1}
 use Rattle.terms.specs.Table.{tree}
 use Rattle.terms.specs.Collect.{Visited}
 use Rattle.state.specs.declared.sizes.Sizes.{Sizes}
@@ -80,8 +84,19 @@ module _ {facts lists : List ℕ} {n : Sizes} {I W : List ℕ} {m : Mark} (used 
   fewer : length g.S.vars ≤ 64 * length used
   fewer = omega (arith, g.recorded.rows.row7)
 
-  pub outside_none : n.vars < r → 0 ≡ least (length g.S.vars) beyond
+  outside_none : n.vars < r → 0 ≡ least (length g.S.vars) beyond
   outside_none h = sym (least_beyond (64 * length used) (length g.S.vars) beyond fewer (omega (arith, is, g.many)))
 
-  pub outside_some : r ≤ n.vars → r ≡ least (length g.S.vars) beyond
+  outside_some : r ≤ n.vars → r ≡ least (length g.S.vars) beyond
   outside_some h = is ∙ least_within (64 * length used) (length g.S.vars) beyond fewer (omega (arith, is, g.many))
+
+  -- of the lowest of all, that which is a variable stays
+  module _ (P : ℕ → Bool → Type 0) (tells : (v : ℕ) (t : Bool) → P v t → t ≡ ltb v n.vars) where
+    tested : (v : ℕ) (t : Bool) → counted_from_1 (some v) ≡ r → t ≡ ltb v n.vars → counted_from_1 (then_some t v) ≡ least (length g.S.vars) beyond
+    tested v true q h = q ∙ outside_some (omega (arith, q, ltb-true v n.vars (sym h)))
+    tested v false q h = outside_none (omega (arith, q, ltb-false v n.vars (sym h)))
+
+    pub outside_kept : (o p : Option ℕ) → counted_from_1 o ≡ r → MatchOption o (p ≡ nothing) (λ v. (t : Bool) × P v t × (p ≡ then_some t v)) →
+        counted_from_1 p ≡ least (length g.S.vars) beyond
+    outside_kept nothing p q k = ap counted_from_1 k ∙ q ∙ outside_some (omega (arith, q))
+    outside_kept (some v) p q k = ap counted_from_1 k.2 ∙ tested v k.0 q (tells v k.0 k.1)

@@ -28,21 +28,16 @@ last M ids k h = ap (args_of M) (drop_of_length-le ids h)
 pub record Visiting (I W : List ℕ) (m : Mark) (ids seen₀ set₀ seen set : List ℕ) (k : ℕ) : Type 0 where
   pub left : union (holds set) (variables_of (args_of (made I W m) (drop k ids))) ≡ union (holds set₀) (variables_of (args_of (made I W m) ids))
   pub visits : Seen I W m (holds seen) (holds set)
-  pub long_seen : length seen ≡ length seen₀
-  pub long_set : length set ≡ length set₀
 
 module _ {I W : List ℕ} {m : Mark} {ids seen₀ set₀ seen set : List ℕ} {k : ℕ} (v : Visiting I W m ids seen₀ set₀ seen set k) where
-  pub visiting_on : {seen' set' : List ℕ} → k < length ids → length seen' ≡ length seen → length set' ≡ length set
-      → Visited I W m (get_or ids k 0) (holds seen) (holds set) (holds seen') (holds set') → Visiting I W m ids seen₀ set₀ seen' set' (k + 1)
-  visiting_on h p q c =
+  pub visiting_on : {seen' set' : List ℕ} → k < length ids → Visited I W m (get_or ids k 0) (holds seen) (holds set) (holds seen') (holds set') → Visiting I W m ids seen₀ set₀ seen' set' (k + 1)
+  visiting_on h c =
       let rest = args_of (made I W m) (drop (k + 1) ids) in
       record {
         left = ap (λ (a : Set). union a (variables_of rest)) c.set
             ∙ union_assoc (holds set) (variables (tree I W m (get_or ids k 0))) (variables_of rest)
             ∙ ap (union (holds set)) (sym (ap variables_of (next (made I W m) ids k h) ∙ variables_more _ _)) ∙ v.left;
         visits = c.visits;
-        long_seen = p ∙ v.long_seen;
-        long_set = q ∙ v.long_set;
       }
 
   pub visiting_ends : length ids ≤ k → Gathered I W m (variables_of (args_of (made I W m) ids)) (holds set₀) (holds seen) (holds set)

@@ -1,6 +1,5 @@
 -- What the forms of facts are given and what they answer: a derived fact by its judgment's number, its hypotheses and its footing as sets. Assumes nothing.
 use Rattle.std.specs.Prelude.{◌≡◌, true, false, ◌||◌, List, [], ◌∷◌, ℕ, ◌-◌, ◌<◌, ◌≤◌, eqb, length, get_or, take, Result, Ok, Err}
-use Rattle.rules.specs.Limits.{VARIABLEWORDS, TERMWORDS}
 use Rattle.rules.specs.Out.{Out}
 use Rattle.rules.specs.Find.{Set, rising}
 use Rattle.rules.specs.Sexp.{Sexps, count}
@@ -78,12 +77,10 @@ unfoldable pub cell_vars : Made → List ℕ → Set
 cell_vars M [] v = false
 cell_vars M (c ∷ cs) v = elim (eqb c 0) [ true ↦ cell_vars M cs v | false ↦ variables (get_or M (c - 1) (var 0)) v || cell_vars M cs v ]
 
--- cells of terms of the store, each a number with 1 added or 0, and sets wide enough for every term and every variable
-pub record ReadableCells (I W : List ℕ) (m : Mark) (cells seen set : List ℕ) : Type 0 where
+-- cells of terms of the store, each a number with 1 added or 0
+pub record ReadableCells (I W : List ℕ) (m : Mark) (cells : List ℕ) : Type 0 where
   pub good : Good I W m
   pub within : (v : ℕ) → get_or cells v 0 ≤ m.terms
-  pub wide : length seen ≡ TERMWORDS
-  pub broad : length set ≡ VARIABLEWORDS
 
 -- K answers items: what they bind is in the cells, what they state is the term with that number less 1, or none
 pub record ItemsRead (I W J X : List ℕ) (old : Mark) (K : Out Made Items) (bound : List ℕ) (stated : ℕ) (new : Mark) : Type 0 where

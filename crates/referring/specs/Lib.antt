@@ -1,4 +1,5 @@
 pub mod Derived
+pub mod Ids
 pub mod Laws
 pub mod Recall
 pub mod Referral

@@ -1,7 +1,6 @@
 -- What the functions of this crate are given: texts and tables that stand for a state, with the items that the cells hold. Each record holds the
 -- state and the items, so that a contract says its answer of whatever they are. Assumes nothing.
-use Rattle.std.specs.Prelude.{◌≡◌, List, [], ◌∷◌, ℕ, ◌/◌, ◌<◌, length, get_or}
-use Rattle.rules.specs.Limits.{TERMS, VARIABLES}
+use Rattle.std.specs.Prelude.{◌≡◌, List, [], ◌∷◌, ℕ, ◌<◌, length, get_or}
 use Rattle.rules.specs.Sexp.{Sexp, Sexps, cons}
 use Rattle.rules.specs.Store.{Made}
 use Rattle.rules.specs.State.{State, Fact}
@@ -76,9 +75,7 @@ pub record RefersItems (K : Names) (facts : List ℕ) (n : Sizes) (I W : List �
   pub refers : Refers K facts footings lists n I W m S
   pub holds : Holds K.text cells xs
 
--- terms of the store, by their numbers, and sets wide enough for every term and every variable
-pub record ReadableAll (I W : List ℕ) (m : Mark) (ids seen set : List ℕ) : Type 0 where
+-- terms of the store, by their numbers
+pub record ReadableAll (I W : List ℕ) (m : Mark) (ids : List ℕ) : Type 0 where
   pub good : Good I W m
   pub there : (k : ℕ) → k < length ids → get_or ids k 0 < m.terms
-  pub wide : length seen ≡ TERMS / 64
-  pub broad : length set ≡ VARIABLES / 64

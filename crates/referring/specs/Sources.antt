@@ -88,11 +88,11 @@ ConcludesAs f i t (Err q) = ((q ≡ Earlier) × (f.n.facts ≤ i)) ⊎ ((q ≡ C
 abbrev pub RecallsIn : Facts → Terms → Type 0
 RecallsIn f t = Recalls (fact_rows f.records.now) f.lists.now f.n t.index.now t.words.now t.mark
 
-abbrev pub ReadableIn : Terms → List ℕ → List ℕ → List ℕ → Type 0
-ReadableIn t ids seen set = ReadableAll t.index.now t.words.now t.mark ids seen set
+abbrev pub ReadableIn : Terms → List ℕ → Type 0
+ReadableIn t ids = ReadableAll t.index.now t.words.now t.mark ids
 
-abbrev pub ReadableCellsIn : Terms → List ℕ → List ℕ → List ℕ → Type 0
-ReadableCellsIn t cells seen set = ReadableCells t.index.now t.words.now t.mark cells seen set
+abbrev pub ReadableCellsIn : Terms → List ℕ → Type 0
+ReadableCellsIn t cells = ReadableCells t.index.now t.words.now t.mark cells
 
 -- what was visited before is right for the set
 abbrev pub SeenIn : Terms → List ℕ → List ℕ → Type 0

@@ -1,4 +1,4 @@
-// Naming facts: by index, or as an instance with bindings (questions 34 to 36).
+// Naming facts: by index, or as an instance with bindings (questions 34 to 36); and numbers that join a set, which all above use that gather facts.
 ghost use Rattle.std.specs.Prelude.{◌≡◌, List, ℕ, ◌<◌, ◌*◌, length, get_or, replicate};
 ghost use Rattle.rules.specs.Limits.{TERMS};
 ghost use Rattle.rules.specs.Find.{union, has};
@@ -14,7 +14,6 @@ use crate::source::Source;
 use questions::Question;
 use rules::VARIABLES;
 use sexp::items;
-use sexp::items::Item;
 use state::recorded::{hyps as hyps_of, judgment};
 use terms::sets::insert;
 use terms::store::Store;
@@ -74,9 +73,9 @@ impl Source<'_> {
         if own.from != own.end {
             return Err(Question::Instance);
         }
-        let next = items::after(cells, 0);
         let mut map = [0; VARIABLES];
-        self.reader.bindings(store, &cells[next..], &mut map)?;
+        self.reader
+            .bindings(store, items::from(cells, 1), &mut map)?;
         let term = substitute(store, &map, memo, judgment(self.records, i))?;
         Ok(Referred {
             judgment: term,
@@ -99,9 +98,9 @@ impl Source<'_> {
             ReferredAs store.old store.new g.S (reference g.S g.x (made_of store.old)) result }
         ensures memo_unchanged { memo.new ≡ memo.old }
     {
-        match items::item_at(cells, 0) {
-            Item::Atom(_) => self.bare(cells),
-            Item::List(a, b) => self.instance(store, &cells[a..b], memo),
+        match items::list(cells, 0) {
+            Some(inner) => self.instance(store, inner, memo),
+            None => self.bare(cells),
         }
     }
 }

@@ -5,7 +5,6 @@
 // both each join, difference and search of sets would reach for its half; and what was visited is right only beside the terms, so that no type can
 // state it.
 ghost use Rattle.std.specs.Prelude.{◌≡◌, [], ◌∷◌, ◌<◌, length};
-ghost use Rattle.rules.specs.Limits.{VARIABLEWORDS, FACTWORDS, TERMWORDS};
 ghost use Rattle.rules.specs.Find.{union, minus, rising, least};
 ghost use Rattle.rules.specs.Tree.{variables, variables_of};
 ghost use Rattle.rules.specs.Store.{Made};
@@ -13,6 +12,7 @@ ghost use Rattle.rules.specs.State.{mentioned, free, hyp_vars};
 ghost use Rattle.rules.specs.Reference.{scoped};
 ghost use Rattle.terms.specs.Table.{tree, args_of};
 ghost use Rattle.terms.specs.Lent.{terms_made};
+ghost use Rattle.terms.specs.Patterns.{cells_of};
 ghost use Rattle.terms.specs.Sets.{holds, counted_from_1};
 ghost use Rattle.state.specs.Members.{Under};
 ghost use Rattle.referring.specs.Recall.{fact_of};
@@ -22,15 +22,21 @@ ghost use Rattle.referring.specs.Sources.{RecallsIn, ReadableIn, ReadableCellsIn
 use crate::references::insert_all;
 use crate::source::Facts;
 use questions::Question;
-use rules::{FACTS, TERMWORDS, VARIABLEWORDS};
+use rules::{FACTS, FACTWORDS, TERMWORDS, VARIABLEWORDS};
 use state::recorded::judgment;
+use terms::patterns::Bound;
 use terms::sets::{count, lowest_outside, minus_from, union_into, write_out};
 use terms::store::Terms;
 use terms::variables::visit;
 
 // The variables of the terms join the set.
-pub fn visit_all(terms: &Terms<'_>, ids: &[u32], seen: &mut [u64], set: &mut [u64])
-    requires readable_all { ReadableIn terms.now ids.now seen.old set.old }
+pub fn visit_all(
+    terms: &Terms<'_>,
+    ids: &[u32],
+    seen: &mut [u64; TERMWORDS],
+    set: &mut [u64; VARIABLEWORDS],
+)
+    requires readable_all { ReadableIn terms.now ids.now }
     requires seen { SeenIn terms.now seen.old set.old }
     ensures { GatheredIn terms.now (variables_of (args_of (terms_made terms.now) ids.now)) set.old seen.new set.new }
 {
@@ -41,8 +47,14 @@ pub fn visit_all(terms: &Terms<'_>, ids: &[u32], seen: &mut [u64], set: &mut [u6
 
 impl Facts<'_> {
     // The variables of fact i's judgment and premises join the set.
-    pub fn mention(&self, terms: &Terms<'_>, i: usize, seen: &mut [u64], set: &mut [u64])
-        requires recalls { RecallsIn self.now terms.now × (i < self.now.n.facts) × (length seen.old ≡ TERMWORDS) × (length set.old ≡ VARIABLEWORDS) }
+    pub fn mention(
+        &self,
+        terms: &Terms<'_>,
+        i: usize,
+        seen: &mut [u64; TERMWORDS],
+        set: &mut [u64; VARIABLEWORDS],
+    )
+        requires recalls { RecallsIn self.now terms.now × (i < self.now.n.facts) }
         requires seen { SeenIn terms.now seen.old set.old }
         ensures { (g : RecallsIn self.now terms.now) → GatheredIn terms.now (mentioned (fact_of g.S i)) set.old seen.new set.new }
     {
@@ -51,8 +63,8 @@ impl Facts<'_> {
     }
 
     // The variables that a hypothesis does not generalise join the set.
-    fn mention_free(&self, terms: &Terms<'_>, i: usize, set: &mut [u64])
-        requires { RecallsIn self.now terms.now × (i < self.now.n.facts) × (length set.old ≡ VARIABLEWORDS) }
+    fn mention_free(&self, terms: &Terms<'_>, i: usize, set: &mut [u64; VARIABLEWORDS])
+        requires { RecallsIn self.now terms.now × (i < self.now.n.facts) }
         ensures { (g : RecallsIn self.now terms.now) → holds set.new ≡ union (holds set.old) (free (fact_of g.S i)) }
     {
         let mut seen = [0u64; TERMWORDS];
@@ -65,8 +77,14 @@ impl Facts<'_> {
     }
 
     // The variables that hypothesis i does not generalise join the set. Where it generalises none, what was visited is used, and grows.
-    fn join_free(&self, terms: &Terms<'_>, i: usize, seen: &mut [u64], set: &mut [u64])
-        requires recalls { RecallsIn self.now terms.now × (i < self.now.n.facts) × (length seen.old ≡ TERMWORDS) × (length set.old ≡ VARIABLEWORDS) }
+    fn join_free(
+        &self,
+        terms: &Terms<'_>,
+        i: usize,
+        seen: &mut [u64; TERMWORDS],
+        set: &mut [u64; VARIABLEWORDS],
+    )
+        requires recalls { RecallsIn self.now terms.now × (i < self.now.n.facts) }
         requires seen { SeenIn terms.now seen.old set.old }
         ensures { (g : RecallsIn self.now terms.now) → GatheredIn terms.now (free (fact_of g.S i)) set.old seen.new set.new }
     {
@@ -78,10 +96,16 @@ impl Facts<'_> {
     }
 
     // The variables that are free in hypotheses join the set, one hypothesis after the other. There is no heap for a list of these: it is written into an
-    // array, with its count.
-    fn join_hyps(&self, terms: &Terms<'_>, hyps: &[u64], seen: &mut [u64], set: &mut [u64])
+    // array, with its count. An iterator over members is no plainer: it would be a struct with a `next` and a promise of its own, for this walk alone, since
+    // those who write members out keep the list, and the programs ask each number. A chain that filters 0..FACTS would ask for FACTS numbers where a few words tell.
+    fn join_hyps(
+        &self,
+        terms: &Terms<'_>,
+        hyps: &[u64; FACTWORDS],
+        seen: &mut [u64; TERMWORDS],
+        set: &mut [u64; VARIABLEWORDS],
+    )
         requires recalls { RecallsIn self.now terms.now × Under self.now.n.facts (holds hyps.now) }
-        requires hyps_len { (length hyps.now ≡ FACTWORDS) × (length seen.old ≡ TERMWORDS) × (length set.old ≡ VARIABLEWORDS) }
         requires seen { SeenIn terms.now seen.old set.old }
         ensures { (g : RecallsIn self.now terms.now) →
             holds set.new ≡ union (holds set.old) (hyp_vars g.S.facts (rising self.now.n.facts (holds hyps.now))) }
@@ -94,9 +118,14 @@ impl Facts<'_> {
     }
 
     // The variables that are free in hypotheses join the set; these are facts, given as a set. Most facts rest on none, and then no list is made.
-    pub fn hyp_vars(&self, terms: &Terms<'_>, hyps: &[u64], seen: &mut [u64], set: &mut [u64])
+    pub fn hyp_vars(
+        &self,
+        terms: &Terms<'_>,
+        hyps: &[u64; FACTWORDS],
+        seen: &mut [u64; TERMWORDS],
+        set: &mut [u64; VARIABLEWORDS],
+    )
         requires recalls { RecallsIn self.now terms.now × Under self.now.n.facts (holds hyps.now) }
-        requires hyps_len { (length hyps.now ≡ FACTWORDS) × (length seen.old ≡ TERMWORDS) × (length set.old ≡ VARIABLEWORDS) }
         requires seen { SeenIn terms.now seen.old set.old }
         ensures { (g : RecallsIn self.now terms.now) →
             holds set.new ≡ union (holds set.old) (hyp_vars g.S.facts (rising self.now.n.facts (holds hyps.now))) }
@@ -111,12 +140,11 @@ impl Facts<'_> {
     pub fn outside(
         &self,
         terms: &Terms<'_>,
-        used: &[u64],
+        used: &[u64; VARIABLEWORDS],
         conclusion: usize,
-        hyps: &[u64],
+        hyps: &[u64; FACTWORDS],
     ) -> Option<usize>
         requires recalls { RecallsIn self.now terms.now × Under self.now.n.facts (holds hyps.now) × (conclusion < terms.now.mark.terms) }
-        requires hyps_len { (length hyps.now ≡ FACTWORDS) × (length used.now ≡ VARIABLEWORDS) }
         ensures { (g : RecallsIn self.now terms.now) → let t = terms.now in
             counted_from_1 result ≡ least (length g.S.vars) (minus (holds used.now) (union (variables (tree t.index.now t.words.now t.mark conclusion)) (hyp_vars g.S.facts (rising (length g.S.facts) (holds hyps.now))))) }
     {
@@ -124,23 +152,19 @@ impl Facts<'_> {
         let mut inside = [0u64; VARIABLEWORDS];
         visit(terms, conclusion, &mut seen, &mut inside);
         self.hyp_vars(terms, hyps, &mut seen, &mut inside);
-        let lowest = lowest_outside(used, &inside)?;
-        if self.n.vars <= lowest {
-            return None;
-        }
-        Some(lowest)
+        let count = self.n.vars;
+        lowest_outside(used, &inside).filter(|v| *v < count)
     }
 
     // Question 39, as the definition puts it: the lowest variable that is outside is its detail, counted from 1.
     pub fn scoped(
         &self,
         terms: &Terms<'_>,
-        used: &[u64],
+        used: &[u64; VARIABLEWORDS],
         conclusion: usize,
-        hyps: &[u64],
+        hyps: &[u64; FACTWORDS],
     ) -> Result<(), Question>
         requires recalls { RecallsIn self.now terms.now × Under self.now.n.facts (holds hyps.now) × (conclusion < terms.now.mark.terms) }
-        requires hyps_len { (length hyps.now ≡ FACTWORDS) × (length used.now ≡ VARIABLEWORDS) }
         ensures { (g : RecallsIn self.now terms.now) (M : Made) → let t = terms.now in
             ScopedBy (scoped g.S (holds used.now) (tree t.index.now t.words.now t.mark conclusion) (rising (length g.S.facts) (holds hyps.now)) M) M result }
     {
@@ -151,25 +175,51 @@ impl Facts<'_> {
     }
 }
 
-// The variables of the term in a cell, a number with 1 added or 0, join the set.
-fn visit_cell(terms: &Terms<'_>, cell: usize, seen: &mut [u64], set: &mut [u64])
-    requires readable_cells { ReadableCellsIn terms.now (cell ∷ []) seen.old set.old }
+// The variables of the term, where there is one, join the set. It serves `visit_cells` and `visit_bound`, two, since a map has cells and a rule's variables
+// options: one over an iterator of options would have to promise what each item gives.
+fn visit_one(
+    terms: &Terms<'_>,
+    term: Option<usize>,
+    seen: &mut [u64; TERMWORDS],
+    set: &mut [u64; VARIABLEWORDS],
+)
+    requires readable_cells { ReadableCellsIn terms.now (counted_from_1 term ∷ []) }
     requires seen { SeenIn terms.now seen.old set.old }
-    ensures { GatheredIn terms.now (cell_vars (terms_made terms.now) (cell ∷ [])) set.old seen.new set.new }
+    ensures { GatheredIn terms.now (cell_vars (terms_made terms.now) (counted_from_1 term ∷ [])) set.old seen.new set.new }
 {
-    if cell == 0 {
-        return;
+    if let Some(id) = term {
+        visit(terms, id, seen, set);
     }
-    visit(terms, cell - 1, seen, set);
 }
 
 // The variables of the terms in the cells, each a number with 1 added or 0, join the set.
-pub fn visit_cells(terms: &Terms<'_>, cells: &[u32], seen: &mut [u64], set: &mut [u64])
-    requires readable_cells { ReadableCellsIn terms.now cells.now seen.old set.old }
+pub fn visit_cells(
+    terms: &Terms<'_>,
+    cells: &[u32],
+    seen: &mut [u64; TERMWORDS],
+    set: &mut [u64; VARIABLEWORDS],
+)
+    requires readable_cells { ReadableCellsIn terms.now cells.now }
     requires seen { SeenIn terms.now seen.old set.old }
     ensures { GatheredIn terms.now (cell_vars (terms_made terms.now) cells.now) set.old seen.new set.new }
 {
     for cell in cells {
-        visit_cell(terms, *cell as usize, seen, set);
+        visit_one(terms, (*cell as usize).checked_sub(1), seen, set);
+    }
+}
+
+// The variables of the terms that a rule's variables are bound to join the set.
+pub fn visit_bound(
+    terms: &Terms<'_>,
+    bound: &Bound,
+    seen: &mut [u64; TERMWORDS],
+    set: &mut [u64; VARIABLEWORDS],
+)
+    requires readable_cells { ReadableCellsIn terms.now (cells_of bound.now) }
+    requires seen { SeenIn terms.now seen.old set.old }
+    ensures { GatheredIn terms.now (cell_vars (terms_made terms.now) (cells_of bound.now)) set.old seen.new set.new }
+{
+    for term in bound {
+        visit_one(terms, *term, seen, set);
     }
 }

@@ -23,6 +23,7 @@ pub fn substitute_all(
     ensures replaced_as { let M = made_of store.old in ReplacedAs store.old store.new (substitutes (replacement M map.now) (args_of M ids.now) M) out.new result }
     ensures memo_unchanged { memo.new ≡ memo.old }
 {
+    // by its place: behind a zip with `iter_mut` nothing is known of what was written
     for (k, id) in ids.iter().enumerate() {
         out[k] = substitute(store, map, memo, *id as usize)? as u32;
     }

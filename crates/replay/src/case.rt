@@ -1,5 +1,5 @@
 // Stored cases, read one by one. What is missing at the end of the input counts as empty.
-use running::texts::Texts;
+use printing::load::TextFiles;
 use std::alloc::Global;
 use std::io;
 use std::io::{BufRead, Read};
@@ -14,21 +14,9 @@ const LINE: u64 = 80;
 #[derive(Drop)]
 pub struct Case {
     pub name: Vec<u8>,
-    pub theory: Vec<u8>,
-    pub goals: Vec<u8>,
-    pub proof: Vec<u8>,
+    pub files: TextFiles,
     pub answer: Vec<u8>,
     pub recorded: Vec<u8>,
-}
-
-impl Case {
-    pub fn texts(&self) -> Texts<'_> {
-        Texts {
-            theory: &self.theory,
-            goals: &self.goals,
-            proof: &self.proof,
-        }
-    }
 }
 
 // A line of numbers in decimal, a space between two of them. One that is missing, or is none, counts as 0.
@@ -66,9 +54,11 @@ pub fn read_case<R: BufRead>(alloc: Global, input: &mut R) -> io::Result<Option<
     )?;
     let case = Case {
         name: read_part(alloc, input, name)?,
-        theory: read_part(alloc, input, theory)?,
-        goals: read_part(alloc, input, goals)?,
-        proof: read_part(alloc, input, proof)?,
+        files: TextFiles {
+            theory: read_part(alloc, input, theory)?,
+            goals: read_part(alloc, input, goals)?,
+            proof: read_part(alloc, input, proof)?,
+        },
         answer: read_part(alloc, input, answer)?,
         recorded: read_part(alloc, input, facts.saturating_add(footings))?,
     };

@@ -49,10 +49,10 @@ pub fn is_as_expected(alloc: Global, case: &Case) -> io::Result<bool> {
     let mut wanted = Vec::from_slice(alloc, &case.answer)?;
     wanted.push(b'\n')?;
     if !is_stored(&case.recorded) {
-        let line = Line(answer(&case.texts()));
+        let line = Line(answer(&case.files.texts()));
         return writes(&wanted, |out| writeln!(out, "{line}"));
     }
     wanted.extend_from_slice(&case.recorded)?;
     wanted.extend_from_slice(b"(missing [")?;
-    writes(&wanted, |out| tell(alloc, &case.texts(), out))
+    writes(&wanted, |out| tell(alloc, &case.files.texts(), out))
 }

@@ -10,7 +10,7 @@ use crate::expected::is_as_expected;
 use std::io;
 use std::io::{BufReader, Write};
 
-// Cases that are read at most.
+// Cases that are read at most, so that the walk is seen to end.
 const CASES: usize = 100000;
 
 // All cases of the input; how many.

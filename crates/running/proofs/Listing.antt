@@ -1,4 +1,4 @@
--- The list of 53 where the check has stopped: by that question or by another. Assumes nothing.
+-- The list of 53 is empty where the check has stopped by another question. Assumes nothing.
 use Rattle.std.specs.Prelude.{◌≡◌, refl, true, false, List, [], ℕ, eqb, replicate}
 use Rattle.std.proofs.Common.{sym, ap, ◌∙◌}
 use Rattle.rules.specs.Limits.{GOALS}
@@ -50,9 +50,5 @@ others question.ResultJudgment h = refl
 others (question.MissingResults k) h = absurd (h k refl)
 others (question.Room k) h = refl
 
-module _ {q : Question} (xs : List ℕ) {list : List ℕ} where
-  pub listed_53 : {k : ℕ} → q ≡ question.MissingResults k → list ≡ filled GOALS xs → ListedFor q xs list
-  listed_53 e l = l ∙ ap (λ p. filled GOALS (elim (eqb (number_of p) 53) [ true ↦ xs | false ↦ [] ])) (sym e)
-
-  pub listed_other : ((k : ℕ) → q ≡ question.MissingResults k → ⊥) → list ≡ replicate GOALS 0 → ListedFor q xs list
-  listed_other h l = l ∙ sym (filled_none GOALS) ∙ ap (λ b. filled GOALS (elim b [ true ↦ xs | false ↦ [] ])) (sym (others q h))
+pub listed_other : {q : Question} (xs : List ℕ) {list : List ℕ} → ((k : ℕ) → q ≡ question.MissingResults k → ⊥) → list ≡ replicate GOALS 0 → ListedFor q xs list
+listed_other {q} xs h l = l ∙ sym (filled_none GOALS) ∙ ap (λ b. filled GOALS (elim b [ true ↦ xs | false ↦ [] ])) (sym (others q h))

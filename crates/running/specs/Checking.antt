@@ -21,7 +21,8 @@ use Rattle.facts.specs.declared.Fact.{Fact}
 use Rattle.facts.specs.Table.{zeroed}
 use Rattle.running.specs.declared.stopped.Stopped.{Stopped}
 use Rattle.running.specs.declared.finish.Report.{Report}
-use Rattle.running.specs.declared.finish.Refusal.{Refusal}
+use Rattle.running.specs.declared.refusal.Refusal.{Refusal}
+use Rattle.running.specs.declared.refusal.Refusal.TheVariants as refusal
 use Rattle.running.specs.Course.{outcome_of, Over}
 use Rattle.running.specs.Finished.{Finishes, answer_of}
 use Rattle.state.specs.Records.{fact_row, fact_foot, fact_rows, fact_feet}
@@ -87,11 +88,8 @@ module _ {T : TheoryLists} {W : Working} {M : List ℕ} (fs : List Fact) where
       }
 
 -- a table is too short: all of them are as they were
-abbrev pub unfit : Refusal
-unfit = record { number = 1; text = 0; form = 0; detail = 0 }
-
 pub call_unfit : (theory goals proof : List ℕ) {T U : TheoryLists} {W Z : Working} {M N : List ℕ} (fs : List Fact) {gs : List Fact} {r : Result Report Refusal} →
-    ¬ (AllLong (length fs) T W M) → U ≡ T → Z ≡ W → N ≡ M → gs ≡ fs → r ≡ Err unfit →
+    ¬ (AllLong (length fs) T W M) → U ≡ T → Z ≡ W → N ≡ M → gs ≡ fs → r ≡ Err refusal.Tables →
     Call theory goals proof (tables_of T W M fs) (tables_of U Z N gs) (answer_of r)
 call_unfit theory goals proof {T} {U} {W} {Z} {M} {N} fs {gs} {r} n u v m f e =
     record {

@@ -1,5 +1,5 @@
 -- The end of a check: what it is given, and the answer in the definition's words. Assumes nothing.
-use Rattle.std.specs.Prelude.{◌≡◌, ◌*◌, ◌<◌, Bool, not, true, false, List, [], ℕ, eqb, length, Result, Ok, Err}
+use Rattle.std.specs.Prelude.{◌≡◌, ◌*◌, ◌<◌, Bool, not, true, false, List, [], ℕ, eqb, length, Result, Ok, Err, ⊤}
 use Rattle.rules.specs.Limits.{GOALS}
 use Rattle.rules.specs.Find.{every}
 use Rattle.rules.specs.Tree.{is_open}
@@ -21,11 +21,12 @@ use Rattle.state.specs.Rows.{cell}
 use Rattle.state.specs.declared.sizes.Sizes.{Sizes}
 use Rattle.state.specs.Held.{GoalsHeld}
 use Rattle.state.specs.Stands.{Board}
-use Rattle.counts.specs.declared.Counts.{Counts}
 use Rattle.counts.specs.Counted.{counts_of}
 use Rattle.running.specs.declared.finish.Report.{Report}
-use Rattle.running.specs.declared.finish.Refusal.{Refusal}
+use Rattle.running.specs.declared.refusal.Refusal.{Refusal}
+use Rattle.running.specs.declared.stopped.Proved.{Proved}
 use Rattle.running.specs.declared.stopped.Stopped.{Stopped}
+use Rattle.running.specs.Refusals.{refusal_of}
 use Rattle.running.specs.Course.{Over}
 
 -- the goals without a result, numbered from 1
@@ -69,22 +70,32 @@ answer_of (Ok r) =
       steps = r.steps;
       goals = r.goals;
       open_goals = r.open_goals;
-      hypotheses = r.hypotheses;
-      inductions = r.inductions;
-      inversions = r.inversions;
-      instances = r.instances;
+      hypotheses = r.counts.hypotheses;
+      inductions = r.counts.inductions;
+      inversions = r.counts.inversions;
+      instances = r.counts.instances;
     })
-answer_of (Err r) = refuses (record { number = r.number; text = r.text; form = r.form; detail = r.detail })
+answer_of (Err r) = refuses (refusal_of r)
 
--- no form is left: the check has gone through so many, or has stopped
-pub record FinishGiven (r : Result ℕ Stopped) (c : Counts) (B : Board) (n : Sizes) (m : Mark) : Type 0 where
+-- how many forms of the proof there were, where it is gone through
+abbrev pub forms_of : Result Proved Stopped → Result ℕ Stopped
+forms_of (Ok p) = Ok p.forms
+forms_of (Err s) = Err s
+
+-- the state's counts are those that are answered; a check that has stopped answers none
+abbrev pub CountedAs : Result Proved Stopped → State → Type 0
+CountedAs (Ok p) S = S.counts ≡ counts_of p.counts
+CountedAs (Err s) S = ⊤
+
+-- no form is left: the check has gone through the proof, or has stopped
+pub record FinishGiven (r : Result Proved Stopped) (B : Board) (n : Sizes) (m : Mark) : Type 0 where
   pub theory : List ℕ
   pub goals : List ℕ
   pub proof : List ℕ
   pub T : TheoryLists
   pub S : State
-  pub over : Over theory goals proof T B n m r S
-  pub counted : S.counts ≡ counts_of c
+  pub over : Over theory goals proof T B n m (forms_of r) S
+  pub counted : CountedAs r S
 
 -- r is the answer; the list afterwards
 pub record Finishes (theory goals proof : List ℕ) (r : Result Report Refusal) (list : List ℕ) : Type 0 where

@@ -5,4 +5,4 @@ pub mod Finished
 pub mod Lent
 pub mod ReadBack
 pub mod RecordLaws
-pub mod Stopped
+pub mod Refusals

@@ -1,6 +1,6 @@
-// The texts of a check.
+// The three texts of a check, which travel together.
 
-// The three texts.
+// The theory, the goals, the proof.
 #[derive(Clone, Copy)]
 pub struct Texts<'a> {
     pub theory: &'a [u8],

@@ -1,6 +1,6 @@
 -- One form of the proof: what is asked of the callees, and that all stands again afterwards, with the counts; and what is left when no form is.
 -- Assumes nothing.
-use Rattle.std.specs.Prelude.{◌≡◌, refl, List, ℕ, ◌+◌, ◌≤◌, Option, Some as some, None as nothing, Result, Ok, Err}
+use Rattle.std.specs.Prelude.{◌≡◌, ℕ, ◌+◌, ◌≤◌, Option, Result, Ok, Err}
 use Rattle.std.proofs.Common.{sym, ap, ◌∙◌, subst, arith}
 use Rattle.questions.specs.declared.Question.{Question}
 use Rattle.sexp.specs.Never.{never}
@@ -56,8 +56,12 @@ module _ {g : Given} {b : Board} {s : Store} {p k : ℕ} {c : Counts} (x : Kept 
       next w = subst (λ (y : Counts). Kept g d t a.end (k + 1) y) (sym w) after
 
     -- no form is left
-    pub ran : (r : Result ℕ Stopped) → OverIn g d t r x.S → RanIn g d t r c
-    ran r o = record { S = x.S; over = o; counted = x.counted }
+    pub ran : OverIn g d t (Ok k) x.S → RanIn g d t (Ok (record { forms = k; counts = c }))
+    ran o = record { S = x.S; over = o; counted = x.counted }
+
+    -- or a question is left
+    pub left : {y : Stopped} → OverIn g d t (Err y) x.S → RanIn g d t (Err y)
+    left o = record { S = x.S; over = o; counted = tt }
 
     -- what `next_form` answers
     pub stops : (r : Result (Option Advance) Question) {y : Stopped} → AdvancedAs g b d s t k p x.S r → in_proof k r ≡ Err y → OverIn g d t (Err y) x.S

@@ -15,49 +15,47 @@ use Rattle.forms.specs.Boards.{theory_of}
 use Rattle.facts.specs.declared.Fact.{Fact}
 use Rattle.state.specs.RowTables.{tabled_long}
 use Rattle.state.specs.FactLaws.{facts_tabled}
-use Rattle.counts.specs.declared.Counts.{Counts}
 use Rattle.counts.specs.Sum.{none}
-use Rattle.counts.specs.Counted.{counts_of, counts_none}
+use Rattle.counts.specs.Counted.{counts_none}
+use Rattle.running.specs.declared.stopped.Proved.{Proved}
 use Rattle.running.specs.declared.stopped.Stopped.{Stopped}
 use Rattle.running.specs.declared.finish.Report.{Report}
-use Rattle.running.specs.declared.finish.Refusal.{Refusal}
+use Rattle.running.specs.declared.refusal.Refusal.{Refusal}
+use Rattle.running.specs.declared.refusal.Refusal.TheVariants as refusal
 use Rattle.running.specs.Course.{Over}
-use Rattle.running.specs.Finished.{FinishGiven, Finishes, answer_of}
+use Rattle.running.specs.Finished.{forms_of, FinishGiven, Finishes, answer_of}
 use Rattle.running.specs.Lent.{Working, working, board_front}
-use Rattle.running.specs.Between.{Few, AllLong}
+use Rattle.running.specs.Between.{AllLong}
 use Rattle.running.specs.ReadBack.{Call}
-use Rattle.running.specs.Checking.{tables_of, with_index, unfit, call_filled, call_unfit}
+use Rattle.running.specs.Checking.{tables_of, with_index, call_filled, call_unfit}
 use Rattle.beginning.specs.Opened.{Opened}
 use Rattle.schematic.specs.Ran.{Kept, Ran, unsettled, Whole, Filled}
 use Rattle.schematic.proofs.Lends.{front_is, behind_is, theory_exact, board_exact, theory_now, theory_front_lem, theory_behind, working_now, board_front_lem, working_behind}
 
 -- The beginning --------------------------------------------------------------------------------------------------------------------
 
-few_none : (forms : ℕ) → Few none forms
-few_none forms = record { hypotheses = omega arith; inductions = omega arith; inversions = omega arith; instances = omega arith }
-
-module _ {theory goals proof : List ℕ} {T : TheoryLists} {B : Board} {n : Sizes} {m : Mark} {c : Counts} (z : c ≡ none) where
-  -- a question is left before the proof
-  pub left : {s : Stopped} → Opened theory goals proof T B n m (Err s) → Ran theory goals proof T B n m (Err s) c
-  left o = record { S = o.S; over = o.course; counted = o.counts ∙ sym (ap counts_of z ∙ counts_none) }
+-- a question is left before the proof
+pub left : {theory goals proof : List ℕ} {T : TheoryLists} {B : Board} {n : Sizes} {m : Mark} {s : Stopped} →
+    Opened theory goals proof T B n m (Err s) → Ran theory goals proof T B n m (Err s)
+left o = record { S = o.S; over = o.course; counted = tt }
 
 -- it begins
-module _ (g : Given) (b : Lent) (t : Store) {c : Counts} (z : c ≡ none) where
-  pub begun : {u : Unit {0}} → Opened g.theory.now g.goals.now g.text.now (theory_of g) (tables_in b t) b.n t.mark (Ok u) → Kept g b t 0 0 c
+module _ (g : Given) (b : Lent) (t : Store) where
+  pub begun : {u : Unit {0}} → Opened g.theory.now g.goals.now g.text.now (theory_of g) (tables_in b t) b.n t.mark (Ok u) → Kept g b t 0 0 none
   begun o =
       record {
         S = o.S;
         underway = o.course;
-        counted = o.counts ∙ sym (ap counts_of z ∙ counts_none);
-        few = subst (λ (x : Counts). Few x 0) (sym z) (few_none 0);
+        counted = o.counts ∙ sym counts_none;
+        few = record { hypotheses = omega arith; inductions = omega arith; inversions = omega arith; instances = omega arith };
       }
 
 -- The end --------------------------------------------------------------------------------------------------------------------------
 
-module _ {theory goals proof : List ℕ} {T : TheoryLists} {B : Board} {n : Sizes} {m : Mark} {e : Result ℕ Stopped} {c : Counts}
-    (r : Ran theory goals proof T B n m e c) where
+module _ {theory goals proof : List ℕ} {T : TheoryLists} {B : Board} {n : Sizes} {m : Mark} {e : Result Proved Stopped}
+    (r : Ran theory goals proof T B n m e) where
   -- what `finish` asks
-  abbrev pub finish_asks : FinishGiven e c B n m
+  abbrev pub finish_asks : FinishGiven e B n m
   finish_asks = record { theory = theory; goals = goals; proof = proof; T = T; S = r.S; over = r.over; counted = r.counted }
 
   -- what is left then: W, J: the words and the index of the store
@@ -68,9 +66,9 @@ module _ {theory goals proof : List ℕ} {T : TheoryLists} {B : Board} {n : Size
         index = B.index;
         n = n;
         m = m;
-        e = e;
+        e = forms_of e;
         S = r.S;
-        over = subst (λ x. Over theory goals proof T (board B.vars B.index x B.defs B.goals B.facts B.footings B.lists) n m e r.S) (sym w) r.over;
+        over = subst (λ x. Over theory goals proof T (board B.vars B.index x B.defs B.goals B.facts B.footings B.lists) n m (forms_of e) r.S) (sym w) r.over;
         index_is = j;
         finishes = f;
       }
@@ -141,5 +139,5 @@ module _ {theory goals proof : List ℕ} {T U : TheoryLists} {W Z : Working} {M 
 
 -- a table is too short
 pub short : (theory goals proof : List ℕ) (T : TheoryLists) (W : Working) (M : List ℕ) (fs : List Fact) → ¬ (AllLong (length fs) T W M) →
-    Call theory goals proof (tables_of T W M fs) (tables_of T W M fs) (answer_of (Err unfit)) × (drop FACTS fs ≡ drop FACTS fs)
+    Call theory goals proof (tables_of T W M fs) (tables_of T W M fs) (answer_of (Err refusal.Tables)) × (drop FACTS fs ≡ drop FACTS fs)
 short theory goals proof T W M fs n = (call_unfit theory goals proof fs n refl refl refl refl refl, refl)

@@ -16,11 +16,12 @@ use Rattle.facts.specs.declared.Fact.{Fact}
 use Rattle.counts.specs.declared.Counts.{Counts}
 use Rattle.counts.specs.Counted.{counts_of}
 use Rattle.forms.specs.Boards.{theory_of}
+use Rattle.running.specs.declared.stopped.Proved.{Proved}
 use Rattle.running.specs.declared.stopped.Stopped.{Stopped}
 use Rattle.running.specs.declared.finish.Report.{Report}
-use Rattle.running.specs.declared.finish.Refusal.{Refusal}
+use Rattle.running.specs.declared.refusal.Refusal.{Refusal}
 use Rattle.running.specs.Course.{Over}
-use Rattle.running.specs.Finished.{Finishes, answer_of}
+use Rattle.running.specs.Finished.{forms_of, CountedAs, Finishes, answer_of}
 use Rattle.running.specs.Lent.{Working, board_front, WorkingBehind}
 use Rattle.running.specs.ReadBack.{Call}
 use Rattle.running.specs.Checking.{tables_of, with_index}
@@ -35,13 +36,13 @@ pub record Kept (g : Given) (b : Lent) (s : Store) (p k : ℕ) (c : Counts) : Ty
   pub few : Few c k
 
 -- no form is left
-pub record Ran (theory goals proof : List ℕ) (T : TheoryLists) (B : Board) (n : Sizes) (m : Mark) (r : Result ℕ Stopped) (c : Counts) : Type 0 where
+pub record Ran (theory goals proof : List ℕ) (T : TheoryLists) (B : Board) (n : Sizes) (m : Mark) (r : Result Proved Stopped) : Type 0 where
   pub S : State
-  pub over : Over theory goals proof T B n m r S
-  pub counted : S.counts ≡ counts_of c
+  pub over : Over theory goals proof T B n m (forms_of r) S
+  pub counted : CountedAs r S
 
-abbrev pub RanIn : Given → Lent → Store → Result ℕ Stopped → Counts → Type 0
-RanIn g b s r c = Ran g.theory.now g.goals.now g.text.now (theory_of g) (tables_in b s) b.n s.mark r c
+abbrev pub RanIn : Given → Lent → Store → Result Proved Stopped → Type 0
+RanIn g b s r = Ran g.theory.now g.goals.now g.text.now (theory_of g) (tables_in b s) b.n s.mark r
 
 -- the tables when no form was left: the index was not settled yet
 abbrev pub unsettled : Board → List ℕ → Board

@@ -22,33 +22,34 @@ use advancing::advance::{Scratch, next_form};
 use beginning::begin::{begin, given_of};
 use beginning::lengths;
 use beginning::tables::fits;
-use counts::{Counts, add};
+use counts::Counts;
 use facts::Fact;
 use kernel::tables::{Counts as Held, Tables};
-use questions::{Question, Text};
-use running::finish::{Refusal, Report, finish};
-use running::stopped::Stopped;
+use questions::Text;
+use running::finish::{Report, finish};
+use running::refusal::Refusal;
+use running::stopped::{Proved, Stopped};
 use running::texts::Texts;
 use state::board::{Board, Given};
 use state::sizes::Sizes;
 use terms::store::{Mark, Store};
 
-// The forms of the proof, one after the other: how many there are. What they count is added up.
+// The forms of the proof, one after the other: how many there are, and what they count.
 fn prove(
     given: &Given<'_>,
     board: &mut Board<'_>,
     store: &mut Store<'_>,
     scratch: &mut Scratch<'_>,
-    counts: &mut Counts,
-) -> Result<usize, Stopped>
-    requires kept { Kept given.now board.old store.old 0 0 counts.old }
+) -> Result<Proved, Stopped>
+    requires kept { Kept given.now board.old store.old 0 0 none }
     requires idle { IdleIn scratch.old }
     ensures same_tables { SameBoard board.old board.new × SameTables store.old store.new × SameScratch scratch.old scratch.new }
-    ensures ran { RanIn given.now board.new store.new result counts.new }
+    ensures ran { RanIn given.now board.new store.new result }
     ensures idle_again { IdleIn scratch.new }
 {
     let mut at = 0;
     let mut forms = 0;
+    let mut counts = Counts::NONE;
     // from form to form: how many there are is not known before; `next_form` fills lent tables, which an iterator would have to hold and lend on
     loop {
         let next = next_form(given, board, store, scratch, at).map_err(|question| Stopped::left_in(
@@ -56,9 +57,9 @@ fn prove(
             question.behind(forms),
         ))?;
         let Some(step) = next else {
-            return Ok(forms);
+            return Ok(Proved { forms, counts });
         };
-        add(counts, step.counts);
+        counts += step.counts;
         forms += 1;
         at = step.end;
     }
@@ -71,17 +72,16 @@ fn run(
     board: &mut Board<'_>,
     store: &mut Store<'_>,
     scratch: &mut Scratch<'_>,
-    counts: &mut Counts,
-) -> Result<usize, Stopped>
+) -> Result<Proved, Stopped>
     requires opening { Opening (lists_of tables.old) (tables_of board.old store.old) scratch.old.cells.now }
-    requires idle { IdleIn scratch.old × (counts.old ≡ none) }
+    requires idle { IdleIn scratch.old }
     ensures same_tables { SameTheory tables.old tables.new × SameBoard board.old board.new × SameTables store.old store.new × SameScratch scratch.old scratch.new }
-    ensures ran { Ran texts.now.theory.now texts.now.goals.now texts.now.proof.now (lists_of tables.new) (tables_of board.new store.new) board.new.n store.new.mark result counts.new }
+    ensures ran { Ran texts.now.theory.now texts.now.goals.now texts.now.proof.now (lists_of tables.new) (tables_of board.new store.new) board.new.n store.new.mark result }
 {
     let cells = &mut *scratch.cells;
     begin(texts, tables, board, store, cells)?;
     let given = given_of(texts, texts.proof, tables);
-    prove(&given, board, store, scratch, counts)
+    prove(&given, board, store, scratch)
 }
 
 // The check over tables of their named lengths.
@@ -101,9 +101,8 @@ fn check_exact(
     ensures same_scratch { SameScratch scratch.old scratch.new }
     ensures whole { Whole texts.now.theory.now texts.now.goals.now texts.now.proof.now (lists_of tables.new) (tables_of board.new store.new) missing.new result }
 {
-    let mut counts = Counts::NONE;
-    let outcome = run(texts, tables, board, store, scratch, &mut counts);
-    finish(outcome, counts, board, store, missing)
+    let outcome = run(texts, tables, board, store, scratch);
+    finish(outcome, board, store, missing)
 }
 
 // The same in tables of the theory of their named lengths, and others that may be longer. These stand one by one: a struct of lent tables was tried, and the
@@ -259,12 +258,7 @@ pub fn check(
         missing.len(),
         facts.len(),
     ]) {
-        return Err(Refusal {
-            number: Question::Tables.number(),
-            text: 0,
-            form: 0,
-            detail: 0,
-        });
+        return Err(Refusal::Tables);
     }
     let texts = Texts {
         theory,

@@ -1,15 +1,15 @@
 -- Kinds of bytes, from the tests that the code makes. Assumes nothing.
 use mathlib.Core.Path.{◌≡◌, refl, sym, ap, ◌∙◌}
-use mathlib.Core.Bool.{Bool, true, false, cond, not}
+use mathlib.Core.Bool.{Bool, true, false, cond}
 use Prim.Native.Nat.{ℕ, ◌+◌, ◌≤◌, ◌<◌}
 use mathlib.Core.List.{List}
 use native.Mathlib.Omega.{arith}
 use lib.Dec.{eqb}
 use lib.ListN.{length, get_or, drop}
-use borrow.Author.Tests.{ne_eqb, le-leb, lt-leb}
+use borrow.Author.Tests.{ne_eqb}
 use Rattle.rules.specs.Text.{same}
 use Rattle.rules.specs.Lex.{Kind, blank, left, right, semicolon, letter, white, kind, letters}
-use Rattle.rules.specs.Laws.Lex.{kind_blank, kind_left, kind_right, kind_semicolon, kind_letter, place_letters_more, place_letters_none, letters_end}
+use Rattle.rules.specs.Laws.Lex.{kind_blank, kind_semicolon, kind_letter, place_letters_more, place_letters_none, letters_end}
 use Rattle.rules.specs.Laws.Text.{same_equal, same_self}
 use Rattle.std.specs.Prelude.{reverse}
 use Rattle.std.specs.Bool.{Decides}
@@ -18,22 +18,6 @@ use Rattle.std.proofs.lemmas.List.{reverse-reverse}
 use Rattle.sexp.specs.Lexed.{wide, is_letter}
 
 -- white space
-
-pub wide_space : (b : ℕ) → b ≡ 32 → 1 ≡ wide (white b)
-unfolding white
-wide_space b e = rw e
-
-pub wide_low : (b : ℕ) → (b ≡ 32 → ⊥) → b < 9 → 0 ≡ wide (white b)
-unfolding white
-wide_low b n h = rw (lt-leb 9 b h, ne_eqb b 32 n)
-
-pub wide_mid : (b : ℕ) → 9 ≤ b → b ≤ 13 → 1 ≡ wide (white b)
-unfolding white
-wide_mid b h k = rw (le-leb 9 b h, le-leb b 13 k)
-
-pub wide_high : (b : ℕ) → (b ≡ 32 → ⊥) → 9 ≤ b → 13 < b → 0 ≡ wide (white b)
-unfolding white
-wide_high b n h k = rw (le-leb 9 b h, lt-leb b 13 k, ne_eqb b 32 n)
 
 width : (t : Bool) (w : ℕ) → w ≡ wide t → (w ≡ 0 → ⊥) → t ≡ true
 width true w e h = refl
@@ -92,24 +76,6 @@ letter_here b k c l r = kind_letter b (go (white b) refl) l r (λ e. c (kind_sem
     go : (t : Bool) → white b ≡ t → white b ≡ false
     go true e = absurd (k (kind_blank b e))
     go false e = e
-
--- the tests of `is_letter`
-pub letter_blank : (b : ℕ) → kind b ≡ blank → false ≡ is_letter (kind b)
-letter_blank b e = rw e
-
-pub letter_left : (b : ℕ) → b ≡ 40 → false ≡ is_letter (kind b)
-letter_left b e = sym (ap is_letter (kind_left b e))
-
-pub letter_right : (b : ℕ) → b ≡ 41 → false ≡ is_letter (kind b)
-letter_right b e = sym (ap is_letter (kind_right b e))
-
-pub letter_last : (b : ℕ) → white b ≡ false → (b ≡ 40 → ⊥) → (b ≡ 41 → ⊥) → not (eqb b 59) ≡ is_letter (kind b)
-unfolding kind
-letter_last b h l r = rw (h, ne_eqb b 40 l, ne_eqb b 41 r) (go (eqb b 59))
-  where
-    go : (t : Bool) → not t ≡ is_letter (cond t semicolon letter)
-    go true = refl
-    go false = refl
 
 -- the letters from a place on, a byte at a time
 pub letters_on : (text : List ℕ) (p : ℕ) → p < length text → kind (get_or text p 0) ≡ letter → p + length (letters (drop p text)) ≡ p + 1 + length (letters (drop (p + 1) text))

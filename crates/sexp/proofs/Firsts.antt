@@ -1,14 +1,14 @@
 -- The first item of a list, as `head` looks at it. Assumes nothing.
 use mathlib.Core.Path.{◌≡◌, sym, ap, ◌∙◌}
-use Prim.Native.Nat.{ℕ, ◌+◌, ◌-◌, ◌≤◌}
+use Prim.Native.Nat.{ℕ, ◌≤◌}
 use mathlib.Core.List.{List}
 use native.Mathlib.Omega.{arith}
-use lib.ListN.{length, take, drop}
+use lib.ListN.{length, drop}
 use Rattle.rules.specs.Lex.{letters}
 use Rattle.rules.specs.Sexp.{Sexps, atom, list, nil, cons, item}
 use Rattle.sexp.specs.Items.{Holds, item_at}
 use Rattle.sexp.specs.ItemLaws.{More}
-use Rattle.sexp.specs.WalkLaws.{Walk, walk_start, walk_more, walk_over, walk_atom, walk_list, Span, span}
+use Rattle.sexp.specs.WalkLaws.{Walk, walk_start, walk_more, walk_over, walk_atom, walk_list}
 use Rattle.sexp.specs.declared.items.Item.{Item}
 use Rattle.sexp.specs.declared.items.Item.TheVariants.{Atom, List as Part}
 
@@ -34,12 +34,5 @@ module _ {text words : List ℕ} (xs : Sexps) (h : Holds text words xs) (n : len
     pub head_start : p ≤ length text
     head_start = omega (arith, (walk_atom first_here e w).stands.inside)
 
-    module _ {q : ℕ} (g : q ≡ p + length (letters (drop p text))) where
-      head_span : Span text p q (walk_atom first_here e w).bytes
-      head_span = span (walk_atom first_here e w).stands g
-
-      pub head_high : q ≤ length text
-      head_high = head_span.high
-
-      pub head_atom : (k : ℕ) × (item xs 0 ≡ atom k (take (q - p) (drop p text)))
-      head_atom = let a = walk_atom first_here e w in (p, first_is ∙ a.is ∙ ap (atom p) (sym head_span.part))
+    pub head_atom : (k : ℕ) × (item xs 0 ≡ atom k (letters (drop p text)))
+    head_atom = let a = walk_atom first_here e w in (p, first_is ∙ a.is ∙ ap (atom p) (sym a.stands.bytes))

@@ -10,3 +10,4 @@ pub mod Turns
 pub mod IndexLaws
 pub mod TagLaws
 pub mod Firsts
+pub mod Lists

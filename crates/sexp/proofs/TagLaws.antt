@@ -1,13 +1,10 @@
 -- The tables of the code are the definition's, and the first row that fits is the same. Assumes nothing.
-use Rattle.std.proofs.Common.{◌≡◌, refl, sym, ap, ◌∙◌, ℕ, ◌≤◌, ◌<◌, Bool, true, false, List, [], ◌∷◌, leb}
-use Rattle.std.proofs.Math.Bool.{and-true, and-false}
+use Rattle.std.proofs.Common.{◌≡◌, refl, sym, ap, ◌∙◌, ℕ, Bool, true, false, List, [], ◌∷◌}
 use Rattle.std.specs.Prelude.{Option, Some as some, None as nothing, MatchOption, cond}
 use Rattle.std.specs.List.{find}
 use Rattle.std.specs.Option.{option_map}
 use denote.Bor.{Bor}
-use borrow.Author.Tests.{le-leb, lt-leb}
-use Rattle.rules.specs.Text.{same}
-use Rattle.rules.specs.Tags.{Row, Tag, a_var, a_def, a_step, a_hyp, a_rule_hyp, an_induct, an_induct_with, an_apply, an_invert, a_result, Declaration, a_sort, a_ctor, a_pred, a_rule, GoalForm, a_variable, a_goal, a_goal_with, proof_tags, theory_tags, goal_tags, within, fits, tag_in, proof_tag, declaration, goal_form, index_in, index_place}
+use Rattle.rules.specs.Tags.{Row, Tag, a_var, a_def, a_step, a_hyp, a_rule_hyp, an_induct, an_induct_with, an_apply, an_invert, a_result, Declaration, a_sort, a_ctor, a_pred, a_rule, GoalForm, a_variable, a_goal, a_goal_with, proof_tags, theory_tags, goal_tags, fits, tag_in, proof_tag, declaration, goal_form, index_in, index_place}
 use Rattle.sexp.specs.declared.tags.Row.{Row as Listed}
 use Rattle.sexp.specs.declared.tags.Tag.{Tag as TagAnswer}
 use Rattle.sexp.specs.declared.tags.Tag.TheVariants.{Var, Def, Step, Hyp, RuleHyp, Induct, InductWith, Apply, Invert, Outcome}
@@ -17,27 +14,6 @@ use Rattle.sexp.specs.declared.tags.GoalForm.{GoalForm as GoalAnswer}
 use Rattle.sexp.specs.declared.tags.GoalForm.TheVariants.{Variable, Goal, GoalWith}
 use Rattle.sexp.specs.Never.{never}
 use Rattle.sexp.specs.TagTable.{row_of, row_in, tag_of_row, tag_answer, declaration_answer, goal_answer}
-
-pub within_most : {o : Option ℕ} {m n : ℕ} → o ≡ some m → n ≤ m → within o n ≡ true
-unfolding within
-within_most {m = m} {n} e l = rw e (le-leb n m l)
-
-pub within_any : {o : Option ℕ} (n : ℕ) → o ≡ nothing → within o n ≡ true
-unfolding within
-within_any n e = rw e refl
-
-module _ {T : Type 0} (r : Row T) (x : List ℕ) (n : ℕ) where
-  pub too_few : n < r.least → false ≡ fits r x n
-  unfolding fits
-  too_few l = rw (lt-leb r.least n l) (sym (and-false (same r.name x)))
-
-  pub too_many : {m : ℕ} → r.most ≡ some m → m < n → false ≡ fits r x n
-  unfolding fits within
-  too_many {m} e l = rw (e, lt-leb n m l, and-false (leb r.least n)) (sym (and-false (same r.name x)))
-
-  pub by_name : within r.most n ≡ true → r.least ≤ n → same r.name x ≡ fits r x n
-  unfolding fits
-  by_name w l = rw (w, le-leb r.least n l) (sym (and-true (same r.name x)))
 
 -- The search -------------------------------------------------------------------------------------------------------------------
 

@@ -9,7 +9,7 @@ use Rattle.std.specs.Iterator.{Yields}
 use Rattle.rules.specs.Sexp.{Sexp, Sexps, nil, cons, count, item}
 use Rattle.rules.specs.Laws.Sexp.{count_cons}
 use Rattle.sexp.specs.Encode.{encode, encodes}
-use Rattle.sexp.specs.Items.{Items, Reaches, item_at, item_of, behind, place}
+use Rattle.sexp.specs.Items.{Reaches, item_at, item_of, behind, place}
 use Rattle.sexp.specs.Each.{Walks, Over, here, over}
 use Rattle.sexp.specs.declared.items.Each.{Each}
 use Rattle.sexp.specs.declared.items.Item.{Item}
@@ -42,12 +42,11 @@ pub record Seek (words : List ℕ) (number at n : ℕ) (xs : Sexps) : Type 0 whe
   pub here : At words at left
   pub sum : at + place left n ≡ place xs number
 
-pub record Seeks (words : List ℕ) (number at n : ℕ) : Type 0 where
-  pub some : Items words
-  pub all : (xs : Sexps) → words ≡ encodes xs → Seek words number at n xs
+abbrev pub Seeks : List ℕ → ℕ → ℕ → ℕ → Type 0
+Seeks words number at n = (xs : Sexps) → words ≡ encodes xs → Seek words number at n xs
 
-pub seek_start : {words : List ℕ} → Items words → (number : ℕ) → Seeks words number 0 number
-seek_start i number = record { some = i; all = λ xs e. record { left = xs; here = at_first e; sum = omega arith } }
+pub seek_start : {words : List ℕ} (number : ℕ) → Seeks words number 0 number
+seek_start number = λ xs e. record { left = xs; here = at_first e; sum = omega arith }
 
 place_none : (xs : Sexps) → place xs 0 ≡ 0
 unfolding place
@@ -62,27 +61,24 @@ place_on x xs (suc n) h = let e : suc n - 1 ≡ n = omega arith in rw e
 module _ {words : List ℕ} {number at n : ℕ} (t : Seeks words number at n) where
   pub seek_found : n ≡ 0 → (xs : Sexps) → words ≡ encodes xs → at ≡ place xs number
   seek_found h xs e =
-      let k = t.all xs e in
+      let k = t xs e in
       omega (arith, k.sum, ap (place k.left) h, place_none k.left)
 
   pub seek_over : length words ≤ at → (xs : Sexps) → words ≡ encodes xs → at ≡ place xs number
   unfolding place
   seek_over h xs e =
-      let k = t.all xs e in
+      let k = t xs e in
       omega (arith, k.sum, ap (λ y. place y n) (at_over k.left k.here h))
 
   pub seek_on : at < length words → 0 < n → (r : ℕ) → r ≡ behind at (item_at words at) → Seeks words number r (n - 1)
   seek_on h p r e =
+      λ xs f.
+      let k = t xs f in
+      let m = at_more k.left k.here h in
       record {
-        some = t.some;
-        all = λ xs f.
-            let k = t.all xs f in
-            let m = at_more k.left k.here h in
-            record {
-              left = m.others;
-              here = next k.here m r e;
-              sum = omega (arith, k.sum, ap (λ y. place y n) m.is, place_on m.first m.others n p, past k.here m r e);
-            };
+        left = m.others;
+        here = next k.here m r e;
+        sum = omega (arith, k.sum, ap (λ y. place y n) m.is, place_on m.first m.others n p, past k.here m r e);
       }
 
 -- the item that is found

@@ -2,10 +2,10 @@
 use Rattle.std.specs.Prelude.{◌≡◌, refl, List, ℕ, ◌+◌, ◌-◌, ◌%◌, ◌≤◌, ◌<◌, Bool, true, false, eqb, length, get_or, take, drop, Option, Some, None}
 use Rattle.std.proofs.Common.{arith, ap, ◌∙◌, length-drop, drop-drop, get_or-drop, take_all}
 use denote.Ref.{Bor}
-use Rattle.rules.specs.Sexp.{Sexp, Sexps, atom, list, nil, cons, item}
+use Rattle.rules.specs.Sexp.{Sexp, Sexps, atom, list, nil, cons, count, item}
 use Rattle.sexp.specs.Never.{never}
 use Rattle.sexp.specs.ItemLaws.{at_room, item_here, some_cells}
-use Rattle.sexp.specs.WalkLaws.{walk_start, walk_rest, past_atom}
+use Rattle.sexp.specs.WalkLaws.{AtomIs, walk_start, walk_rest, past_atom}
 use Rattle.sexp.specs.declared.items.Each.{Each}
 use Rattle.sexp.specs.Items.{Holds, item_at, item_of, behind, by_parity}
 use Rattle.sexp.specs.declared.items.Item.{Item}
@@ -103,3 +103,29 @@ name_first (cons x xs) h e =
     let w = walk_start h in
     let i = item_here x w.here ∙ ap (item_of 0) e in
     record { others = xs; is = ap (λ z. cons z xs) e; some = omega (arith, at_room w.here, some_cells x); rest = walk_rest (past_atom w refl i) }
+
+-- A list by its number -------------------------------------------------------------------------------------------------------------------
+
+-- the item is a list, and these are the cells of its items, fewer than those around them
+pub record ListOf (text words : List ℕ) (x : Sexp) (part : List ℕ) : Type 0 where
+  pub items : Sexps
+  pub is : x ≡ list items
+  pub holds : Holds text part items
+  pub shorter : length part < length words
+
+-- the cells of the list; none where it is an atom
+abbrev pub ListIn : List ℕ → List ℕ → Sexp → Option (Bor (List ℕ)) → Type 0
+ListIn text words x (Some part) = ListOf text words x part.now
+ListIn text words x None = (p : ℕ) × AtomIs text x p
+
+-- what `list` answers by the number 0, said of the first of some items
+module _ {text words : List ℕ} {x : Sexp} {ys : Sexps} (h : Holds text words (cons x ys)) where
+  first_of : (A : Sexp → Type 0) → ((xs : Sexps) → Holds text words xs → 0 < count xs → A (item xs 0)) → A x
+  unfolding item count
+  first_of A f = f (cons x ys) h (omega arith)
+
+  pub first_list : {part : List ℕ} → ((t : List ℕ) (xs : Sexps) → Holds t words xs → 0 < count xs → ListOf t words (item xs 0) part) → ListOf text words x part
+  first_list {part} l = first_of (λ y. ListOf text words y part) (l text)
+
+  pub first_atom : ((t : List ℕ) (xs : Sexps) → Holds t words xs → 0 < count xs → (p : ℕ) × AtomIs t (item xs 0) p) → (p : ℕ) × AtomIs text x p
+  first_atom l = first_of (λ y. (p : ℕ) × AtomIs text y p) (l text)

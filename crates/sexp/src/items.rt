@@ -1,13 +1,13 @@
 // The items of a list, in the cells of that list; the rest of a list goes on as a part of these.
-ghost use Rattle.std.specs.Prelude.{◌≡◌, ◌<◌, length};
+ghost use Rattle.std.specs.Prelude.{◌≡◌, ℕ, ◌<◌, List, length, drop};
 ghost use Rattle.rules.specs.Sexp.{Sexps, count, item};
 ghost use Rattle.sexp.specs.Encode.{encodes};
 ghost use Rattle.sexp.specs.Items.{Held, Holds, Items, Reaches, item_at, item_of, behind, place};
-ghost use Rattle.sexp.specs.Each.{HeadIs};
+ghost use Rattle.sexp.specs.Each.{HeadIs, ListIn};
 
-use crate::lex::atom_end;
+use crate::lex::atom;
 
-// An atom by its place in the text, or a list by where its items' cells begin and end.
+// An atom by its place in the text, or a list by where its items' cells begin and end, two places of which the definition's words (`item_of`) speak.
 #[derive(Clone, Copy, Debug, PartialEq, Eq)]
 pub enum Item {
     Atom(usize),
@@ -38,7 +38,8 @@ pub fn after(words: &[u32], at: usize) -> usize
     }
 }
 
-// The items of a list, one after the other, each by the cells from it on.
+// The items of a list, one after the other, each by the cells from it on. The cells of the whole list and a place, and no slice that gets shorter: each walk
+// says by the place how far it has come, which of the slice only a difference of two lengths would say.
 #[derive(Clone, Copy)]
 pub struct Each<'a> {
     pub cells: &'a [u32],
@@ -84,8 +85,7 @@ pub fn head<'a>(text: &'a [u8], words: &[u32]) -> Option<&'a [u8]>
     let Item::Atom(start) = item_at(words, 0) else {
         return None;
     };
-    let end = atom_end(text, start);
-    Some(&text[start..end])
+    Some(atom(text, start))
 }
 
 // The number of items.
@@ -96,9 +96,9 @@ pub fn count(words: &[u32]) -> usize
     all(words).count()
 }
 
-// Where the item with that number begins, counted from 0, and with it the rest of the list.
+// Where the item with that number begins, counted from 0, and with it the rest of the list. Not by `all(words).nth(number)`, which gives the cells from
+// there on, and none behind the last item: the place would be a difference of lengths, or the length.
 pub fn place(words: &[u32], number: usize) -> usize
-    requires { Items words.now }
     ensures { (xs : Sexps) → words.now ≡ encodes xs → result ≡ place xs number }
 {
     let mut at = 0;
@@ -111,6 +111,14 @@ pub fn place(words: &[u32], number: usize) -> usize
     at
 }
 
+// The items from that number on.
+pub fn from(words: &[u32], number: usize) -> &[u32]
+    ensures { (xs : Sexps) → words.now ≡ encodes xs → result.now ≡ drop (place xs number) words.now }
+{
+    let at = place(words, number);
+    words.get(at..).unwrap_or(&[])
+}
+
 // The item with that number.
 pub fn nth(words: &[u32], number: usize) -> Item
     requires { Reaches words.now number }
@@ -118,4 +126,18 @@ pub fn nth(words: &[u32], number: usize) -> Item
 {
     let at = place(words, number);
     item_at(words, at)
+}
+
+// The cells of the items of the list with that number; none where an atom has it, or no item. It asks nothing, so that who cuts owes no bounds.
+pub fn list(words: &[u32], number: usize) -> Option<&[u32]>
+    ensures { (text : List ℕ) (xs : Sexps) → Holds text words.now xs → number < count xs → ListIn text words.now (item xs number) result }
+{
+    let at = place(words, number);
+    if words.len() <= at {
+        return None;
+    }
+    let Item::List(start, end) = item_at(words, at) else {
+        return None;
+    };
+    words.get(start..end)
 }

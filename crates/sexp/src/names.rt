@@ -44,7 +44,8 @@ pub fn index_of(name: &[u8]) -> Option<usize>
     unsigned(name.strip_prefix(b"+").unwrap_or(name))
 }
 
-// The number of the first of `count` rows whose name has these bytes: rows of `width` cells with the name from `place` on.
+// The number of the first of `count` rows whose name has these bytes: rows of `width` cells with the name from `place` on. No struct for what is before the
+// name: each caller asks one question of its own table, and would write its five fields, a line each, for that one call.
 pub fn named(
     text: &[u8],
     table: &[u32],
@@ -60,6 +61,6 @@ pub fn named(
     // an index and no `chunks_exact`: the rows may begin anywhere in the table, so that `place` lies behind the end of a chunk, and the last may be short
     (0..count).find(|i| {
         let span = span_at(table, width * *i + place);
-        same(&text[span.from..span.end], name)
+        same(span.of(text), name)
     })
 }

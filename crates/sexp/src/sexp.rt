@@ -1,4 +1,5 @@
-// Reads a text form by form. A form's cells: an atom is `2 * start + 1`, a list `2 * number of its items' cells`, followed by these.
+// Reads a text form by form. A form's cells: an atom is `2 * start + 1`, a list `2 * number of its items' cells`, followed by these:
+// kind and number in one, since C lends the cells as plain numbers.
 ghost use Rattle.std.specs.Prelude.{◌≡◌, ◌++◌, ◌+◌, ◌*◌, ◌-◌, ◌^◌, ◌≤◌, ◌<◌, length, get_or, set, drop, replicate};
 ghost use Rattle.rules.specs.Limits.{LENGTH};
 ghost use Rattle.rules.specs.Sexp.{read};
@@ -46,7 +47,7 @@ fn read_list(text: &[u8], from: usize, words: &mut [u32]) -> Result<Form, Questi
     let mut cells = 1;
     let mut depth = 1;
     let mut open = 0; // the cell of the innermost open list
-    // from bracket to bracket or atom, which is no count
+    // no `for` over tokens: the place behind the last bracket is part of the answer, and a `for` that is left does not say where it was
     loop {
         at = skip(text, at);
         if at >= text.len() {
@@ -111,7 +112,7 @@ pub fn read_all(text: &[u8]) -> Result<usize, Refused>
     let mut at = 0;
     let mut depth = 0;
     let mut forms = 0;
-    // from bracket to bracket or atom, which is no count
+    // no `for` over tokens: their iterator, with its laws, would serve this loop alone, since `read_list` needs a place and `read_form` one token
     loop {
         at = skip(text, at);
         if at >= text.len() {

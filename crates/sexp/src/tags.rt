@@ -175,18 +175,11 @@ static GOALS: [Row<GoalForm>; 3] = [
 ];
 
 impl<T> Row<T> {
+    #[tactic(auto, unfolding(rules::specs::Tags::fits, rules::specs::Tags::within))]
     fn fits(&self, name: &[u8], items: usize) -> bool
         ensures { result ≡ fits (row_of self.now) name.now items }
     {
-        if items < self.least {
-            return false;
-        }
-        if let Some(most) = self.most {
-            if most < items {
-                return false;
-            }
-        }
-        same(self.name, name)
+        self.least <= items && self.most.is_none_or(|most| items <= most) && same(self.name, name)
     }
 }
 
@@ -201,8 +194,7 @@ fn row_in<'a, T>(rows: &'a [Row<T>], name: &[u8], items: usize) -> Option<&'a Ro
 fn tag_in<T: Copy>(rows: &[Row<T>], name: &[u8], items: usize) -> Option<T>
     ensures { result ≡ tag_of_row (row_in rows.now name.now items) }
 {
-    let row = row_in(rows, name, items)?;
-    Some(row.tag)
+    row_in(rows, name, items).map(|row| row.tag)
 }
 
 // The tag of a proof's form that begins with that name and has so many items.

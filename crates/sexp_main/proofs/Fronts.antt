@@ -1,12 +1,11 @@
 -- What the item in front of some items says of their cells. Assumes nothing.
-use Rattle.std.proofs.Common.{◌≡◌, ℕ, ◌+◌, ◌-◌, ◌≤◌, ◌<◌, List, length, take, drop, arith}
+use Rattle.std.proofs.Common.{◌≡◌, ℕ, ◌-◌, ◌≤◌, ◌<◌, List, length, take, drop, arith}
 use Rattle.std.proofs.Math.Logic.{∥∥₁_map, ∥∥₁_elim}
 use Rattle.std.proofs.Props.{props}
-use Rattle.rules.specs.Lex.{letters}
 use Rattle.rules.specs.Sexp.{cons}
 use Rattle.sexp.specs.Items.{Held, item_at}
 use Rattle.sexp.specs.ItemLaws.{More}
-use Rattle.sexp.specs.WalkLaws.{Walk, walk_start, walk_more, walk_rest, walk_atom, walk_list, past_atom, past_list, list_on, span}
+use Rattle.sexp.specs.WalkLaws.{Walk, walk_start, walk_more, walk_rest, walk_atom, walk_list, past_atom, past_list, list_on}
 use Rattle.sexp.specs.declared.items.Item.{Item}
 use Rattle.sexp.specs.declared.items.Item.TheVariants.{Atom, List as Part}
 
@@ -22,9 +21,6 @@ module _ {text words : List ℕ} (some : 0 < length words) {r : Item} (e : r ≡
     module _ {p : ℕ} (f : r ≡ Atom p) where
       pub atom_start : p ≤ length text
       atom_start = ∥∥₁_elim h (hlevel props) (λ k. omega (arith, (walk_atom (here k) e f).stands.inside))
-
-      pub atom_end : {q : ℕ} → q ≡ p + length (letters (drop p text)) → (p ≤ q) × (q ≤ length text)
-      atom_end g = ∥∥₁_elim h (hlevel props) (λ k. let s = span (walk_atom (here k) e f).stands g in (s.low, s.high))
 
       pub after_atom : ∥ Held text (take (length words - 1) (drop 1 words)) ∥₁
       after_atom = ∥∥₁_map h (λ k. ((more k).others, walk_rest (past_atom (here k) e f)))

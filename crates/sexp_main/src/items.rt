@@ -4,7 +4,7 @@ ghost use Rattle.std.specs.Iterator.{at_most};
 ghost use Rattle.sexp.specs.Items.{Held};
 
 use sexp::items::{Item, item_at};
-use sexp::lex::atom_end;
+use sexp::lex::atom;
 
 // Those that are left: the text that their atoms stand in, and their cells. `sexp::items::Each` gives cells and asks nothing; these hold the text, and that
 // the cells are of it, so that `show` needs no contract.
@@ -39,7 +39,7 @@ impl<'a> Iterator for Items<'a> {
         match item_at(cells, 0) {
             Item::Atom(start) => {
                 self.cells = &cells[1..];
-                Some(Part::Atom(&text[start..atom_end(text, start)]))
+                Some(Part::Atom(atom(text, start)))
             }
             Item::List(start, end) => {
                 self.cells = &cells[end..];

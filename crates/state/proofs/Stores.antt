@@ -1,14 +1,11 @@
 -- Rows that are written cell by cell or as a whole. Assumes nothing.
-use mathlib.Core.Path.{◌≡◌, refl, sym, ap, ◌∙◌}
+use mathlib.Core.Path.{◌≡◌, sym, ap, ◌∙◌}
 use Prim.Native.Nat.{ℕ, suc, ◌+◌, ◌-◌, ◌≤◌}
 use mathlib.Core.List.{List, [], ◌∷◌, ◌++◌, append-nil, append_assoc}
 use native.Mathlib.Omega.{arith}
 use native.Mathlib.Numerals.{add-one, add-two}
 use lib.ListN.{length, get_or, take, drop, set, length-drop, drop_of_length-le}
 use lib.Seq.{sets, sets-eq, take_all, drop-drop}
-use borrow.Rule.Slice.PartMut.{put_mid}
-use Rattle.std.proofs.lemmas.Slice.{put_mid-paste}
-use Rattle.std.proofs.lemmas.List.Edits.{paste_all}
 
 -- the first cell of a row
 pub first_cell : (l : List ℕ) (i : ℕ) → get_or l i 0 ≡ get_or l (i + 0) 0
@@ -29,12 +26,6 @@ stores6 l i a b c d e f =
     let four : i + 4 ≡ suc (suc (suc (suc i))) = omega arith in
     let five : i + 5 ≡ suc (suc (suc (suc (suc i)))) = omega arith in
     rw (add-two i, three i, four, five)
-
--- a part that is copied over whole
-pub stored_part : (l part vs : List ℕ) (at n : ℕ) → part ≡ vs → n ≡ length vs → at + length vs ≤ length l → put_mid at n l part ≡ sets l at vs
-stored_part l part vs at n e f h =
-    put_mid-paste at n l part vs n e refl f ∙ paste_all l at vs n f ∙ ap (λ k. take at l ++ (vs ++ drop (at + k) l)) f
-    ∙ sym (append_assoc (take at l) vs (drop (at + length vs) l)) ∙ sym (sets-eq vs l at h)
 
 -- a tail that is written from its first cell on
 pub tail_sets : (l : List ℕ) (at : ℕ) (tail vs : List ℕ) → at + length vs ≤ length l → tail ≡ sets (take (length l - at) (drop at l)) 0 vs →

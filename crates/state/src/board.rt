@@ -15,12 +15,12 @@ pub struct Given<'a> {
     pub rules: Rules<'a>,
 }
 
-// Variables, abbreviations, goals, facts, the entries of lists; and how much of each table is used.
+// Variables, abbreviations, goals (`rows`), facts, the entries of lists; and how much of each table is used.
 #[derive(Drop)]
 pub struct Board<'a> {
     pub vars: &'a mut [u32],
     pub defs: &'a mut [u32],
-    pub rows: &'a mut [u32],
+    pub rows: &'a mut [u32], // of goals
     pub facts: &'a mut [Fact],
     pub lists: &'a mut [u32],
     pub n: Sizes,

@@ -8,10 +8,10 @@ ghost use Rattle.state.specs.Held.{DefsHeld};
 ghost use Rattle.state.specs.Rows.{Fits4, SomeDefs, DefFound};
 
 use cells::Span;
-use kernel::atoms::put_name;
+use kernel::atoms::put_span;
 use sexp::names::named;
 
-// The term that these bytes abbreviate.
+// The term that these bytes abbreviate. No struct of text, table and count, as variables have it: this is the one question that is asked of them.
 pub fn def_named(text: &[u8], defs: &[u32], count: usize, name: &[u8]) -> Option<usize>
     requires { SomeDefs text.now defs.now count }
     ensures { (M : Made) (ds : List Def) → DefsHeld text.now defs.now count M ds → DefFound M ds name.now result }
@@ -26,6 +26,6 @@ pub fn put_def(defs: &mut [u32], d: usize, name: Span, term: usize)
     ensures { defs.new ≡ sets defs.old (3 * d) (name.from ∷ name.end ∷ term ∷ []) }
 {
     let at = 3 * d;
-    put_name(defs, at, name);
+    put_span(defs, at, name);
     defs[at + 2] = term as u32;
 }

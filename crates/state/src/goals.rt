@@ -7,7 +7,7 @@ ghost use Rattle.state.specs.Held.{GoalsHeld};
 ghost use Rattle.state.specs.Rows.{cell, Fits4, SomeGoals, GoalAt, list_span};
 
 use cells::Span;
-use kernel::atoms::put_name;
+use kernel::atoms::put_span;
 use sexp::names::named;
 
 // The goal with these bytes for a name.
@@ -17,6 +17,9 @@ pub fn goal_named(text: &[u8], goals: &[u32], count: usize, name: &[u8]) -> Opti
 {
     named(text, goals, 6, 0, count, name)
 }
+
+// That the goal is there (`GoalAt`) stands in each contract, and no type says it: C lends the table as plain cells, and what is promised is a cell of row k
+// of all of them, so that the six cells of a row in the place of table and number would have lost their row.
 
 // The judgment of goal k.
 pub fn goal_judgment(goals: &[u32], k: usize) -> usize
@@ -61,7 +64,7 @@ pub fn put_goal(goals: &mut [u32], k: usize, name: Span, judgment: usize, from: 
     ensures { goals.new ≡ sets goals.old (6 * k) (name.from ∷ name.end ∷ judgment ∷ from ∷ hyps ∷ 0 ∷ []) }
 {
     let at = 6 * k;
-    put_name(goals, at, name);
+    put_span(goals, at, name);
     goals[at + 2] = judgment as u32;
     goals[at + 3] = from as u32;
     goals[at + 4] = hyps as u32;

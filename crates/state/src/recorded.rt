@@ -15,6 +15,7 @@ use crate::sizes::Sizes;
 use cells::Span;
 use facts::{Fact, append, fact_at, judgment_of};
 use questions::Row;
+use rules::RULEWORDS;
 use terms::sets::{count, union_into, write_out};
 
 // Whether fact i is there: every look-up of a named fact asks this.
@@ -23,6 +24,10 @@ pub fn is_fact(n: Sizes, i: usize) -> bool
 {
     i < n.facts
 }
+
+// That the fact is there (`FactAt`) stands in each contract, and no type says it: what is promised is a cell of row i of the whole table, so that a record
+// in the place of table and number would have lost its row. A number that carries its own test is no plainer: numbers of facts are read from the entries of
+// lists, plain cells that C lends, and each would be tested again there, where what the tables stand for has said already that the fact is there.
 
 // The judgment of fact i. This and `is_assumed` call those of `facts`: what is promised here is a cell of the row, for whoever speaks of the definition.
 pub fn judgment(facts: &[Fact], i: usize) -> usize
@@ -97,19 +102,19 @@ pub fn join_footing(facts: &[Fact], i: usize, set: &mut [u64])
     union_into(set, &fact_at(facts, i).footing);
 }
 
-// Where the entries of one fact more end, so many of them, or the row that has no room.
-fn room(n: Sizes, many: usize) -> Result<usize, Row>
-    requires { (n.entries ≤ ENTRIES) × (many ≤ 2 ^ 32) }
+// Where the entries of one fact more end, so many of them, or the row that has no room, that of the facts first. Whoever writes entries before the fact is
+// put asks it too.
+pub fn room(n: Sizes, many: usize) -> Result<usize, Row>
+    requires { n.entries ≤ ENTRIES }
     ensures { RoomAs n many result }
 {
     if n.facts >= rules::FACTS {
         return Err(Row::Facts);
     }
-    let end = n.entries + many;
-    if rules::ENTRIES < end {
+    if rules::ENTRIES - n.entries < many {
         return Err(Row::Entries);
     }
-    Ok(end)
+    Ok(n.entries + many)
 }
 
 impl Board<'_> {
@@ -118,7 +123,7 @@ impl Board<'_> {
         &mut self,
         judgment: usize,
         hyps: &[u64],
-        footing: &[u64; 4],
+        footing: &[u64; RULEWORDS],
     ) -> Result<(), Row>
         requires putting { Putting (records_of self.old) self.old.n judgment }
         requires hyps_value { 64 * length hyps.now ≡ FACTS }

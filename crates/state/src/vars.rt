@@ -1,6 +1,6 @@
 // The table of variables: sort, text, name. Those of the goals have their names in the goals, those of the proof in the text that is read; a made
 // one has none.
-ghost use Rattle.std.specs.Prelude.{◌≡◌, List, [], ◌∷◌, ℕ, ◌*◌, ◌<◌, get_or};
+ghost use Rattle.std.specs.Prelude.{◌≡◌, List, [], ◌∷◌, ℕ, ◌*◌, ◌^◌, ◌<◌, get_or};
 ghost use Rattle.std.proofs.lemmas.List.Edits.{sets};
 ghost use Rattle.rules.specs.Text.{same};
 ghost use Rattle.rules.specs.State.{Var, var_named, no_var};
@@ -8,7 +8,7 @@ ghost use Rattle.state.specs.Held.{VarsHeld};
 ghost use Rattle.state.specs.Rows.{cell, Fits4, SomeVars, VarAt, text_cell};
 
 use cells::Span;
-use kernel::atoms::put_name;
+use kernel::atoms::put_span;
 use questions::Text;
 use sexp::names::same;
 
@@ -16,10 +16,7 @@ use sexp::names::same;
 fn text_cell(text: Option<Text>) -> u32
     ensures { result ≡ text_cell text }
 {
-    match text {
-        Some(text) => text.number() as u32,
-        None => 0,
-    }
+    text.map_or(0, |text| text.number() as u32)
 }
 
 // The variables that there are, and the texts in which their names stand.
@@ -65,7 +62,7 @@ pub fn var_sort(vars: &[u32], v: usize) -> usize
     vars[4 * v] as usize
 }
 
-// The row of variable v.
+// The row of variable v. `text` is an option, since it is promised so; a variable that is made goes by `put_made_var`.
 pub fn put_var(vars: &mut [u32], v: usize, sort: usize, text: Option<Text>, name: Span)
     requires { VarAt vars.old v × Fits4 sort name.from name.end 0 }
     ensures { vars.new ≡ sets vars.old (4 * v) (sort ∷ text_cell text ∷ name.from ∷ name.end ∷ []) }
@@ -73,5 +70,17 @@ pub fn put_var(vars: &mut [u32], v: usize, sort: usize, text: Option<Text>, name
     let at = 4 * v;
     vars[at] = sort as u32;
     vars[at + 1] = text_cell(text);
-    put_name(vars, at + 2, name);
+    put_span(vars, at + 2, name);
+}
+
+// The row of variable v, which was made: it has no name, and no text in which one stands. A function beside `put_var`, which would want a span to write.
+pub fn put_made_var(vars: &mut [u32], v: usize, sort: usize)
+    requires { VarAt vars.old v × (sort < 2 ^ 32) }
+    ensures { vars.new ≡ sets vars.old (4 * v) (sort ∷ 0 ∷ 0 ∷ 0 ∷ []) }
+{
+    let at = 4 * v;
+    vars[at] = sort as u32;
+    vars[at + 1] = text_cell(None);
+    vars[at + 2] = 0;
+    vars[at + 3] = 0;
 }

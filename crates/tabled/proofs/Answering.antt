@@ -9,7 +9,7 @@ use Rattle.rules.specs.StateTables.{Tables, Long, Checked, too_short, answered}
 use Rattle.kernel.specs.Parsed.{TheoryLists}
 use Rattle.facts.specs.declared.Fact.{Fact}
 use Rattle.running.specs.declared.finish.Report.{Report}
-use Rattle.running.specs.declared.finish.Refusal.{Refusal}
+use Rattle.running.specs.declared.refusal.Refusal.{Refusal}
 use Rattle.running.specs.Finished.{answer_of}
 use Rattle.running.specs.Lent.{Working}
 use Rattle.running.specs.Between.{AllLong}

@@ -5,7 +5,7 @@ use Rattle.kernel.specs.Parsed.{TheoryLists}
 use Rattle.facts.specs.declared.Fact.{Fact}
 use Rattle.facts.specs.Table.{blank}
 use Rattle.running.specs.declared.finish.Report.{Report}
-use Rattle.running.specs.declared.finish.Refusal.{Refusal}
+use Rattle.running.specs.declared.refusal.Refusal.{Refusal}
 use Rattle.state.specs.Records.{fact_rows, fact_feet}
 use Rattle.running.specs.Lent.{Working}
 use Rattle.running.specs.Finished.{answer_of}

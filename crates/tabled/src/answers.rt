@@ -4,7 +4,8 @@ ghost use Rattle.rules.specs.Check.{check};
 ghost use Rattle.running.specs.Finished.{answer_of};
 
 use crate::tables::Tables;
-use running::finish::{Refusal, Report};
+use running::finish::Report;
+use running::refusal::Refusal;
 use running::texts::Texts;
 
 pub fn answer(texts: &Texts<'_>) -> Result<Report, Refusal>

@@ -14,28 +14,30 @@ mod tables;
 pub mod told;
 
 use facts::Fact;
-use running::finish::{Refusal, Report};
+use running::finish::Report;
+use running::refusal::Refusal;
 
-// The row of fact i. It is copied: behind `as_chunks_mut` nothing is known of what was written.
-fn put_row(rows: &mut [u32], i: usize, f: Fact)
-    requires { 6 * i + 6 ≤ length rows.old }
-    ensures { rows.new ≡ sets rows.old (6 * i) (fact_row f) }
+// Row i of a table of so wide ones. It is copied: behind `as_chunks_mut` nothing is known of what was written.
+fn put<T: Copy, const N: usize>(table: &mut [T], i: usize, row: &[T; N])
+    requires { N * i + N ≤ length table.old }
+    ensures { table.new ≡ sets table.old (N * i) row.now }
 {
-    let at = 6 * i;
-    let end = at + 6;
-    rows[at..end].copy_from_slice(&[
-        f.judgment, f.assumed, f.first, f.hyps, f.premises, f.general,
-    ]);
+    let at = N * i;
+    let end = at + N;
+    table[at..end].copy_from_slice(row);
 }
 
-// The footing of fact i, copied as its row is.
-fn put_foot(feet: &mut [u64], i: usize, f: Fact)
-    requires { 4 * i + 4 ≤ length feet.old }
-    ensures { feet.new ≡ sets feet.old (4 * i) (fact_foot f) }
+// The row and the footing of fact i. The fact comes by value: of one in a slice nothing is known of its footing's length.
+fn put_fact(rows: &mut [u32], feet: &mut [u64], i: usize, f: Fact)
+    requires { (6 * i + 6 ≤ length rows.old) × (4 * i + 4 ≤ length feet.old) }
+    ensures row { rows.new ≡ sets rows.old (6 * i) (fact_row f) }
+    ensures foot { feet.new ≡ sets feet.old (4 * i) (fact_foot f) }
 {
-    let at = 4 * i;
-    let end = at + 4;
-    feet[at..end].copy_from_slice(&f.footing);
+    let row = [
+        f.judgment, f.assumed, f.first, f.hyps, f.premises, f.general,
+    ];
+    put(rows, i, &row);
+    put(feet, i, &f.footing);
 }
 
 // Rows and footings of the records.
@@ -45,8 +47,7 @@ fn store_rows(facts: &[Fact], rows: &mut [u32], feet: &mut [u64])
     ensures feet { feet.new ≡ fact_feet facts.now ++ drop (4 * length facts.now) feet.old }
 {
     for (i, f) in facts.iter().enumerate() {
-        put_row(rows, i, *f);
-        put_foot(feet, i, *f);
+        put_fact(rows, feet, i, *f);
     }
 }
 

@@ -6,7 +6,8 @@ ghost use Rattle.running.specs.Finished.{answer_of};
 use beginning::lengths;
 use facts::Fact;
 use printing::checked::Checked;
-use running::finish::{Refusal, Report};
+use running::finish::Report;
+use running::refusal::Refusal;
 use running::texts::Texts;
 
 #[derive(Drop)]

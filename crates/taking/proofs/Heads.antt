@@ -14,18 +14,14 @@ use Rattle.rules.specs.Text.{same}
 use Rattle.rules.specs.State.{State}
 use Rattle.rules.specs.Forms.{goal, take_goal, perform, take_form}
 use Rattle.sexp.specs.Never.{never}
-use Rattle.sexp.specs.Items.{item_at}
-use Rattle.sexp.specs.WalkLaws.{walk_start, walk_atom}
+use Rattle.sexp.specs.WalkLaws.{AtomIs}
+use Rattle.sexp.specs.Each.{ListOf}
 use Rattle.sexp.specs.TagTable.{goal_answer, tag_answer}
-use Rattle.sexp.specs.declared.items.Item.{Item}
-use Rattle.sexp.specs.declared.items.Item.TheVariants.{Atom, List as Part}
 use Rattle.sexp.specs.declared.tags.Tag.{Tag as TagAnswer}
 use Rattle.sexp.specs.declared.tags.Tag.TheVariants.{Var, Def, Step, Hyp, RuleHyp, Induct, InductWith, Apply, Invert, Outcome}
 use Rattle.sexp.specs.declared.tags.GoalForm.{GoalForm as GoalAnswer}
 use Rattle.sexp.specs.declared.tags.GoalForm.TheVariants.{Variable, Goal, GoalWith}
-use Rattle.kernel.specs.Parsed.{Formed}
 use Rattle.taking.specs.Tagged.{headed, tagged, chosen}
-use Rattle.kernel.proofs.Tagged.{alone, form_list}
 
 -- So many items --------------------------------------------------------------------------------------------------------------------
 
@@ -193,16 +189,16 @@ module _ {A R : Type 0} (f : List ℕ → ℕ → Option A) (ans : Option A → 
 
 -- The cells of a form --------------------------------------------------------------------------------------------------------------
 
-module _ {text cells : List ℕ} {x : Sexp} (k : Formed text cells x) {r : Item} (e : r ≡ item_at cells 0) where
-  pub goal_atom_lem : {p : ℕ} → r ≡ Atom p → (S : State) → take_goal x S ≡ refuse 20 0 S
-  goal_atom_lem {p} f S = let a = walk_atom (walk_start (alone k e)) e f in ap (λ y. take_goal y S) a.is ∙ take_goal_atom p a.bytes S
+module _ {text : List ℕ} {x : Sexp} {p : ℕ} (a : AtomIs text x p) (S : State) where
+  pub goal_atom_lem : take_goal x S ≡ refuse 20 0 S
+  goal_atom_lem = ap (λ y. take_goal y S) a.is ∙ take_goal_atom p a.bytes S
 
-  pub form_atom_lem : {p : ℕ} → r ≡ Atom p → (S : State) → take_form x S ≡ refuse 30 0 S
-  form_atom_lem {p} f S = let a = walk_atom (walk_start (alone k e)) e f in ap (λ y. take_form y S) a.is ∙ take_form_atom p a.bytes S
+  pub form_atom_lem : take_form x S ≡ refuse 30 0 S
+  form_atom_lem = ap (λ y. take_form y S) a.is ∙ take_form_atom p a.bytes S
 
-  module _ {a b : ℕ} (f : r ≡ Part a b) where
-    pub goal_takes : (S : State) → take_goal x S ≡ chosen 20 goal (tagged goal_form (form_list k e f).items) (form_list k e f).items S
-    goal_takes S = ap (λ y. take_goal y S) (form_list k e f).is ∙ take_goal_list (form_list k e f).items S
+module _ {text cells part : List ℕ} {x : Sexp} (l : ListOf text cells x part) (S : State) where
+  pub goal_takes : take_goal x S ≡ chosen 20 goal (tagged goal_form l.items) l.items S
+  goal_takes = ap (λ y. take_goal y S) l.is ∙ take_goal_list l.items S
 
-    pub form_takes : (S : State) → take_form x S ≡ chosen 30 perform (tagged proof_tag (form_list k e f).items) (form_list k e f).items S
-    form_takes S = ap (λ y. take_form y S) (form_list k e f).is ∙ take_form_list (form_list k e f).items S
+  pub form_takes : take_form x S ≡ chosen 30 perform (tagged proof_tag l.items) l.items S
+  form_takes = ap (λ y. take_form y S) l.is ∙ take_form_list l.items S

@@ -17,11 +17,10 @@ use entering::derive::{Way, add_derived, add_invert};
 use forms::declare::{add_def, add_var};
 use forms::goals::{add_goal, add_goal_with};
 use forms::hypotheses::{add_hyp, add_rule_hyp};
-use forms::next::is_next;
+use forms::next::next_index;
 use forms::results::result;
 use questions::{Question, Text};
 use sexp::items;
-use sexp::items::Item;
 use sexp::tags::{GoalForm, Tag};
 use state::board::{Board, Given};
 use state::sizes::Sizes;
@@ -49,10 +48,7 @@ fn goal_items(
     ensures tried_as { (g : GoalItemsIn given.now board.old store.old cells.now) →
         GoalTriedIn given.now board.old board.new store.old store.new g.items.S (chosen 20 goal (tagged goal_form g.items.xs) g.items.xs g.items.S) result }
 {
-    let Some(tag) = tag_of_goal(given.text, cells) else {
-        return Err(Question::GoalForm);
-    };
-    match tag {
+    match tag_of_goal(given.text, cells).ok_or(Question::GoalForm)? {
         GoalForm::Variable => add_var(given, board, Text::Goals, cells),
         GoalForm::Goal => add_goal(given, board, store, cells),
         GoalForm::GoalWith => add_goal_with(given, board, store, cells),
@@ -72,11 +68,9 @@ pub fn take_goal(
     ensures taken_as { (g : TakesGoalIn given.now board.old store.old cells.now) →
         GoalTakenIn given.now board.old board.new store.old store.new g.form.S (take_goal g.form.x g.form.S) result }
 {
-    let Item::List(a, b) = items::item_at(cells, 0) else {
-        return Err(Question::GoalForm);
-    };
+    let inner = items::list(cells, 0).ok_or(Question::GoalForm)?;
     let mark = store.mark;
-    let taken = goal_items(given, board, store, &cells[a..b]);
+    let taken = goal_items(given, board, store, inner);
     if taken.is_err() {
         store.forget(mark);
     }
@@ -90,7 +84,7 @@ fn own_index(text: &[u8], cells: &[u32], tag: Tag, n: Sizes) -> Result<(), Quest
 {
     match tag {
         Tag::Var | Tag::Def | Tag::Outcome => Ok(()),
-        _ => is_next(text, cells, n),
+        _ => next_index(text, cells, n),
     }
 }
 
@@ -110,9 +104,7 @@ fn form_items(
         TriedIn given.now board.old board.new store.old store.new g.S (chosen 30 perform (tagged proof_tag g.xs) g.xs g.S) result }
     ensures spare_unchanged { (ids.new ≡ ids.old) × (memo.new ≡ memo.old) }
 {
-    let Some(tag) = tag_of(given.text, cells) else {
-        return Err(Question::ProofForm);
-    };
+    let tag = tag_of(given.text, cells).ok_or(Question::ProofForm)?;
     own_index(given.text, cells, tag, board.n)?;
     match tag {
         Tag::Var => add_var(given, board, Text::Proof, cells).and(Ok(Counts::NONE)),
@@ -143,11 +135,9 @@ pub fn take_form(
         TakenIn given.now board.old board.new store.old store.new g.S (take_form g.x g.S) result }
     ensures spare_unchanged { (ids.new ≡ ids.old) × (memo.new ≡ memo.old) }
 {
-    let Item::List(a, b) = items::item_at(cells, 0) else {
-        return Err(Question::ProofForm);
-    };
+    let inner = items::list(cells, 0).ok_or(Question::ProofForm)?;
     let mark = store.mark;
-    let taken = form_items(given, board, store, &cells[a..b], ids, memo);
+    let taken = form_items(given, board, store, inner, ids, memo);
     if taken.is_err() {
         store.forget(mark);
     }

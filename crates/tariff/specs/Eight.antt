@@ -2,14 +2,15 @@
 -- check whose answer is told so. Assumes nothing.
 use Rattle.std.specs.Prelude.{◌≡◌, ℕ, Bool, true, false, List, [], ◌∷◌, ◌++◌, ltb, length, drop, Result, Ok, Err}
 use Rattle.running.specs.declared.finish.Report.{Report}
-use Rattle.running.specs.declared.finish.Refusal.{Refusal}
+use Rattle.running.specs.declared.refusal.Refusal.{Refusal}
 use Rattle.rules.specs.StateTables.{Tables}
 use Rattle.running.specs.Finished.{answer_of}
+use Rattle.running.specs.Refusals.{refusal_of}
 use Rattle.running.specs.ReadBack.{Call}
 
 abbrev pub eight : Result Report Refusal → List ℕ
-eight (Ok r) = 1 ∷ r.steps ∷ r.goals ∷ r.open_goals ∷ r.hypotheses ∷ r.inductions ∷ r.inversions ∷ r.instances ∷ []
-eight (Err r) = 0 ∷ r.number ∷ r.text ∷ r.form ∷ r.detail ∷ 0 ∷ 0 ∷ 0 ∷ []
+eight (Ok r) = 1 ∷ r.steps ∷ r.goals ∷ r.open_goals ∷ r.counts.hypotheses ∷ r.counts.inductions ∷ r.counts.inversions ∷ r.counts.instances ∷ []
+eight (Err r) = 0 ∷ (refusal_of r).number ∷ (refusal_of r).text ∷ (refusal_of r).form ∷ (refusal_of r).detail ∷ 0 ∷ 0 ∷ 0 ∷ []
 
 -- the first eight numbers anew; a list that has fewer stays as it is
 abbrev pub laid_eight : Bool → List ℕ → List ℕ → List ℕ

@@ -9,7 +9,8 @@ ghost use Rattle.running.specs.Checking.{tables_of};
 ghost use Rattle.tariff.specs.Eight.{laid_eight, answered, Told};
 
 use facts::Fact;
-use running::finish::{Refusal, Report};
+use running::finish::Report;
+use running::refusal::Refusal;
 
 // Eight numbers come to the front of a slice that has room for them.
 fn put(out: &mut [u64], eight: &[u64; 8])
@@ -30,12 +31,12 @@ fn tell(out: &mut [u64], answer: Result<Report, Refusal>)
             r.steps,
             r.goals,
             r.open_goals,
-            r.hypotheses,
-            r.inductions,
-            r.inversions,
-            r.instances,
+            r.counts.hypotheses,
+            r.counts.inductions,
+            r.counts.inversions,
+            r.counts.instances,
         ],
-        Err(r) => [0, r.number, r.text, r.form, r.detail, 0, 0, 0],
+        Err(r) => [0, r.number(), r.text(), r.form(), r.detail(), 0, 0, 0],
     };
     put(out, &eight.map(|n| n as u64));
 }

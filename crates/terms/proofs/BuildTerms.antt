@@ -1,5 +1,5 @@
 -- What building leaves in the tables, at each of its returns and in its loop over the arguments. Assumes nothing.
-use mathlib.Core.Path.{◌≡◌, sym, ap, ◌∙◌, subst}
+use mathlib.Core.Path.{◌≡◌, refl, sym, ap, ◌∙◌, subst}
 use mathlib.Core.List.{List, [], ◌∷◌, ◌++◌}
 use Prim.Native.Nat.{ℕ, suc, ◌+◌, ◌-◌, ◌≤◌, ◌<◌}
 use native.Mathlib.Omega.{arith}
@@ -9,25 +9,27 @@ use lib.ListN.{length, get_or, set, take, drop, length-set, length-drop}
 use lib.Seq.{get_or-set_same, get_or-set_other, get_or-drop, take-suc, drop-cons, length-take-le}
 use borrow.Rule.Slice.PartMut.{put_mid, mid_of, post_of, put_same}
 use Rattle.std.proofs.lemmas.List.{set-append_left}
-use Rattle.rules.specs.Limits.{SYMBOLS, ARGUMENTS, TERMS, NODE}
+use Rattle.rules.specs.Limits.{SYMBOLS, ARGUMENTS, RULEVARS, TERMS, NODE}
 use Rattle.rules.specs.Out.{Out, ok}
 use Rattle.rules.specs.Tree.{Tree, Trees, var, app, more, size}
 use Rattle.rules.specs.Store.{Made, keep}
 use Rattle.rules.specs.Laws.Store.{number_is}
 use Rattle.rules.specs.Match.{Bound, build}
 use Rattle.terms.specs.declared.store.Mark.{Mark}
-use Rattle.std.proofs.Common.{Ok, Err}
+use Rattle.std.specs.Prelude.{Option, Some as some, None as nothing, Ok, Err}
+use Rattle.std.specs.Option.{ok_or}
 use Rattle.questions.specs.Numbers.{row_number, number_of, detail_of}
 use Rattle.questions.specs.declared.Row.{Row}
 use Rattle.questions.specs.declared.Question.{Question}
 use Rattle.questions.specs.declared.Question.TheVariants.{Matching, Room}
 use Rattle.terms.specs.declared.patterns.Built.{Built}
 use Rattle.terms.specs.Table.{run, args_of, tree_at, made, Shaped, is_app, Node, Grown, Stored, Refused}
-use Rattle.terms.specs.Patterns.{arity, Stands, PatternAt, bound_of, Buildable, Builds, BuiltAt}
+use Rattle.terms.specs.Sets.{counted_from_1}
+use Rattle.terms.specs.Patterns.{arity, Stands, PatternAt, cells_of, bound_of, Buildable, Builds, BuiltAt}
 use Rattle.terms.specs.Laws.Runs.{run_same, run_length, run_at}
 use Rattle.terms.specs.Laws.Tables.{length_trees, tree_app}
 use Rattle.terms.specs.Laws.Growth.{grown_refl, grown_trans, grown_tree}
-use Rattle.terms.specs.Laws.Bound.{bound_grown}
+use Rattle.terms.specs.Laws.Bound.{cells_long, cell_of, bound_grown}
 use Rattle.terms.proofs.Matches.{stands_var, stands_app, reads_in, reads_var}
 use Rattle.terms.specs.Laws.Below.{ahead, ahead_snoc}
 use Rattle.terms.proofs.Builds.{ahead_agree, build_none, build_some, Remaining, remaining_begins, remaining_reads}
@@ -36,10 +38,10 @@ use Rattle.terms.proofs.Builds.{remaining_on, remaining_stops, remaining_ends}
 -- A variable -------------------------------------------------------------------------------------------------------------------------
 
 module _ (S P I W : List ℕ) (m : Mark) (B : List ℕ) (at : ℕ) (q : Buildable S P I W m B at) where
-  pub cell_there : SYMBOLS ≤ get_or P at 0 → get_or P at 0 - SYMBOLS < length B
-  cell_there l = let a = reads_var S P at q.reads l in let b = q.cells.long in omega arith
+  pub variable_in : SYMBOLS ≤ get_or P at 0 → get_or P at 0 - SYMBOLS < RULEVARS
+  variable_in l = reads_var S P at q.reads l
 
-  pub build_unbound : SYMBOLS ≤ get_or P at 0 → get_or B (get_or P at 0 - SYMBOLS) 0 ≡ 0 → BuiltAt S P I W I W m m B at (Err Matching)
+  build_unbound : SYMBOLS ≤ get_or P at 0 → get_or B (get_or P at 0 - SYMBOLS) 0 ≡ 0 → BuiltAt S P I W I W m m B at (Err Matching)
   build_unbound l e p st =
       let v = stands_var S P at p st l in
       record {
@@ -49,7 +51,7 @@ module _ (S P I W : List ℕ) (m : Mark) (B : List ℕ) (at : ℕ) (q : Buildabl
         };
       }
 
-  pub build_bound : SYMBOLS ≤ get_or P at 0 → (get_or B (get_or P at 0 - SYMBOLS) 0 ≡ 0 → ⊥) → BuiltAt S P I W I W m m B at (Ok (record { term = get_or B (get_or P at 0 - SYMBOLS) 0 - 1; end = at + 1 }))
+  build_bound : SYMBOLS ≤ get_or P at 0 → (get_or B (get_or P at 0 - SYMBOLS) 0 ≡ 0 → ⊥) → BuiltAt S P I W I W m m B at (Ok (record { term = get_or B (get_or P at 0 - SYMBOLS) 0 - 1; end = at + 1 }))
   unfolding size
   build_bound l n p st =
       let v = stands_var S P at p st l in
@@ -62,6 +64,36 @@ module _ (S P I W : List ℕ) (m : Mark) (B : List ℕ) (at : ℕ) (q : Buildabl
           after = ap (λ (t : Tree). at + size t) (sym v.0);
         };
       }
+
+module _ (S P I W : List ℕ) (m : Mark) (O : List (Option ℕ)) (at : ℕ) (q : Buildable S P I W m (cells_of O) at) (l : SYMBOLS ≤ get_or P at 0) where
+  abbrev v : ℕ
+  v = get_or P at 0 - SYMBOLS
+
+  cell_is : (d o : Option ℕ) → get_or O v d ≡ o → get_or (cells_of O) v 0 ≡ counted_from_1 o
+  cell_is d o e =
+      let i = variable_in S P I W m (cells_of O) at q l in
+      let n = cells_long O in
+      let c = q.cells.long in
+      cell_of O v d (omega arith) ∙ ap counted_from_1 e
+
+  pub build_refused : (d : Option ℕ) (e : Question) → ok_or (get_or O v d) Matching ≡ Err e → BuiltAt S P I W I W m m (cells_of O) at (Err e)
+  build_refused d e r = go (get_or O v d) refl r
+    where
+      go : (o : Option ℕ) → get_or O v d ≡ o → ok_or o Matching ≡ Err e → BuiltAt S P I W I W m m (cells_of O) at (Err e)
+      go nothing h r = let z : Matching ≡ e = cc in subst (λ (k : Question). BuiltAt S P I W I W m m (cells_of O) at (Err k)) z (build_unbound S P I W m (cells_of O) at q l (cell_is d nothing h))
+      go (some t) h r = absurd (cc)
+
+  pub build_known : (d : Option ℕ) (t : ℕ) → ok_or (get_or O v d) Matching ≡ Ok t → BuiltAt S P I W I W m m (cells_of O) at (Ok (record { term = t; end = at + 1 }))
+  build_known d t r = go (get_or O v d) refl r
+    where
+      go : (o : Option ℕ) → get_or O v d ≡ o → ok_or o Matching ≡ Ok t → BuiltAt S P I W I W m m (cells_of O) at (Ok (record { term = t; end = at + 1 }))
+      go nothing h r = absurd (cc)
+      go (some k) h r =
+          let c : get_or (cells_of O) v 0 ≡ suc k = cell_is d (some k) h in
+          let y : k ≡ t = cc in
+          let z : get_or (cells_of O) v 0 - 1 ≡ t = omega arith in
+          subst (λ (j : ℕ). BuiltAt S P I W I W m m (cells_of O) at (Ok (record { term = j; end = at + 1 }))) z
+          (build_bound S P I W m (cells_of O) at q l (λ n. omega arith))
 
 -- The loop ---------------------------------------------------------------------------------------------------------------------------
 

@@ -1,6 +1,6 @@
 -- Patterns against a list of terms; and what a match answers once the cells are put back where there was none. Assumes nothing.
 use mathlib.Core.Path.{◌≡◌, refl, sym, ap, ◌∙◌, subst}
-use mathlib.Core.Bool.{Bool, true, false, true≢false}
+use mathlib.Core.Bool.{true, false, true≢false}
 use mathlib.Core.List.{List, ◌∷◌}
 use Rattle.std.proofs.Common.{Option, Some as some, None as nothing}
 use Rattle.std.specs.Option.{is_some}
@@ -9,21 +9,19 @@ use native.Mathlib.Omega.{arith}
 use native.Mathlib.Numerals.{add-one}
 use lib.ListN.{length, get_or, drop, drop_of_length-le}
 use lib.Seq.{drop-cons}
-use Rattle.rules.specs.Tree.{Trees, var, size, sizes, count_trees}
+use Rattle.rules.specs.Tree.{Trees, sizes, count_trees}
 use Rattle.rules.specs.Store.{Made}
-use Rattle.rules.specs.Match.{matches, match_all}
+use Rattle.rules.specs.Match.{match_all}
 use Rattle.terms.specs.declared.store.Mark.{Mark}
 use Rattle.terms.specs.Table.{args_of, made}
-use Rattle.terms.specs.Patterns.{Standing, bound_of, Matchable, AllMatchable, Tried, hit, miss, AllTried, hits, misses, Matched, matched, other}
-use Rattle.terms.specs.Patterns.{AllMatched, all, not_all, TriedAt, TriedAll, MatchedAt, MatchedAll}
+use Rattle.terms.specs.Patterns.{Standing, bound_of, Matchable, AllMatchable, Tried, hit, miss}
+use Rattle.terms.specs.Patterns.{AllMatched, all, not_all, TriedAt, TriedAll, MatchedAll}
 use Rattle.terms.specs.Laws.Tables.{length_trees}
 use Rattle.terms.proofs.Matches.{Matching, matching_reads, matching_on, matching_miss, matching_ends}
 
 -- terms from k on are left
 pub record Listing (S P I W : List ℕ) (m : Mark) (B : List ℕ) (at : ℕ) (xs C : List ℕ) (place k : ℕ) : Type 0 where
   pub asked : AllMatchable S P I W m B at xs
-  pub upto : k ≤ length xs
-  pub long : length C ≡ length B
   pub going : (ps : Trees) → Standing S P at ps → count_trees ps ≡ length xs
       → Matching S P (made I W m) (match_all ps (args_of (made I W m) xs) (bound_of (made I W m) B)) (at + sizes ps) C place (drop k xs)
 
@@ -31,8 +29,6 @@ pub listing_begins : (S P I W : List ℕ) (m : Mark) (B : List ℕ) (at : ℕ) (
 listing_begins S P I W m B at xs q =
     record {
       asked = q;
-      upto = omega arith;
-      long = refl;
       going = λ ps st c. record {
         patterns = ps;
         stands = st;
@@ -63,56 +59,38 @@ module _ (S P I W : List ℕ) (m : Mark) (B : List ℕ) (at : ℕ) (xs C : List 
         there = q.asked.there k h;
       }
 
-  pub listing_miss : k < length xs → (D : List ℕ) {r : Option ℕ} → TriedAt S P I W m C D place (get_or xs k 0) r → r ≡ nothing → TriedAll S P I W m B D at xs false
-  listing_miss h D c z ps st n = let a = matching_miss S P M _ _ C place _ _ D (next h ps st n) c z in misses a.0 a.1 refl
+  pub listing_miss : k < length xs → (D : List ℕ) {r : Option ℕ} → TriedAt S P I W m C D place (get_or xs k 0) r → r ≡ nothing → TriedAll S P I W m B D at xs nothing
+  listing_miss h D c z ps st n = let a = matching_miss S P M _ _ C place _ _ D (next h ps st n) c z in miss a.0 a.1 refl
 
-  pub listing_on : k < length xs → (D : List ℕ) {r : Option ℕ} → TriedAt S P I W m C D place (get_or xs k 0) r → (next : ℕ) → r ≡ some next → length D ≡ length C → Listing S P I W m B at xs D next (k + 1)
-  listing_on h D c r e l =
+  pub listing_on : k < length xs → (D : List ℕ) {r : Option ℕ} → TriedAt S P I W m C D place (get_or xs k 0) r → (next : ℕ) → r ≡ some next → Listing S P I W m B at xs D next (k + 1)
+  listing_on h D c r e =
       record {
         asked = q.asked;
-        upto = omega arith;
-        long = l ∙ q.long;
         going = λ ps st d.
             subst (λ (j : ℕ). Matching S P M (match_all ps (args_of M xs) (bound_of M B)) (at + sizes ps) D r (drop j xs)) (sym (add-one k))
             (matching_on S P M _ _ C place _ _ D (next h ps st d) c r e);
       }
 
-  pub listing_ends : length xs ≤ k → TriedAll S P I W m B C at xs true
+  pub listing_ends : length xs ≤ k → TriedAll S P I W m B C at xs (some place)
   listing_ends h ps st c =
       let a = matching_ends S P M _ _ C place (subst (Matching S P M (match_all ps (args_of M xs) (bound_of M B)) (at + sizes ps) C place) (drop_of_length-le xs {i = k} h) (q.going ps st c)) in
-      hits a.0 a.1 refl
+      hit a.0 a.1 (ap (λ (r : ℕ). some r) a.2)
 
 -- The cells, and their copy --------------------------------------------------------------------------------------------------------
 
 module _ (S P I W : List ℕ) (m : Mark) (B C : List ℕ) (at : ℕ) where
-  pub match_stays : (id : ℕ) {r : Option ℕ} → TriedAt S P I W m B C at id r → is_some r ≡ false → (D : List ℕ) → D ≡ B → MatchedAt S P I W m B D at id r
-  match_stays id {r} t z D d p st = go (t p st)
+  pub all_stays : (xs : List ℕ) {r : Option ℕ} → TriedAll S P I W m B C at xs r → is_some r ≡ false → (D : List ℕ) → D ≡ B → MatchedAll S P I W m B D at xs false
+  all_stays xs {r} t z D d ps st n = go (t ps st n)
     where
-      go : Tried (made I W m) C (matches p (get_or (made I W m) id (var 0)) (bound_of (made I W m) B)) (at + size p) r
-          → Matched (made I W m) B D (matches p (get_or (made I W m) id (var 0)) (bound_of (made I W m) B)) (at + size p) r
-      go (hit k c b) = absurd (true≢false (sym (ap is_some b) ∙ z))
-      go (miss k c b) = other k d b
-
-  pub match_hits : (id : ℕ) {r : Option ℕ} → TriedAt S P I W m B C at id r → is_some r ≡ true → MatchedAt S P I W m B C at id r
-  match_hits id {r} t n p st = go (t p st)
-    where
-      go : Tried (made I W m) C (matches p (get_or (made I W m) id (var 0)) (bound_of (made I W m) B)) (at + size p) r
-          → Matched (made I W m) B C (matches p (get_or (made I W m) id (var 0)) (bound_of (made I W m) B)) (at + size p) r
-      go (hit k c b) = matched k c b
-      go (miss k c b) = absurd (true≢false (sym n ∙ ap is_some b))
-
-  pub all_stays : (xs : List ℕ) (r : Bool) → TriedAll S P I W m B C at xs r → r ≡ false → (D : List ℕ) → D ≡ B → MatchedAll S P I W m B D at xs false
-  all_stays xs r t z D d ps st n = go (t ps st n)
-    where
-      go : AllTried (made I W m) C (match_all ps (args_of (made I W m) xs) (bound_of (made I W m) B)) r
+      go : Tried (made I W m) C (match_all ps (args_of (made I W m) xs) (bound_of (made I W m) B)) (at + sizes ps) r
           → AllMatched (made I W m) B D (match_all ps (args_of (made I W m) xs) (bound_of (made I W m) B)) false
-      go (hits k c b) = absurd (true≢false (sym b ∙ z))
-      go (misses k c b) = not_all k d refl
+      go (hit k c b) = absurd (true≢false (sym (ap is_some b) ∙ z))
+      go (miss k c b) = not_all k d refl
 
-  pub all_hits : (xs : List ℕ) (r : Bool) → TriedAll S P I W m B C at xs r → r ≡ true → MatchedAll S P I W m B C at xs true
-  all_hits xs r t z ps st n = go (t ps st n)
+  pub all_hits : (xs : List ℕ) {r : Option ℕ} → TriedAll S P I W m B C at xs r → is_some r ≡ true → MatchedAll S P I W m B C at xs true
+  all_hits xs {r} t z ps st n = go (t ps st n)
     where
-      go : AllTried (made I W m) C (match_all ps (args_of (made I W m) xs) (bound_of (made I W m) B)) r
+      go : Tried (made I W m) C (match_all ps (args_of (made I W m) xs) (bound_of (made I W m) B)) (at + sizes ps) r
           → AllMatched (made I W m) B C (match_all ps (args_of (made I W m) xs) (bound_of (made I W m) B)) true
-      go (hits k c b) = all k c refl
-      go (misses k c b) = absurd (true≢false (sym z ∙ b))
+      go (hit k c b) = all k c refl
+      go (miss k c b) = absurd (true≢false (sym z ∙ ap is_some b))

@@ -1,28 +1,29 @@
--- What the match of one pattern with one term leaves, at each of its returns and in its loop over the arguments. Assumes nothing.
+-- What the match of one pattern with one term leaves, at each of its returns, and that its arguments are lower. Assumes nothing.
 use mathlib.Core.Path.{◌≡◌, refl, sym, ap, ◌∙◌, subst}
-use mathlib.Core.List.{List, ◌∷◌}
-use Rattle.std.specs.Prelude.{Option, Some as some, None as nothing}
+use mathlib.Core.List.{List, [], ◌∷◌}
+use Rattle.std.specs.Prelude.{max, Option, Some as some, None as nothing}
 use Prim.Native.Nat.{ℕ, zero, suc, ◌+◌, ◌-◌, ◌≤◌, ◌<◌}
 use native.Mathlib.Omega.{arith}
-use native.Mathlib.Numerals.{add-one}
+use Rattle.std.proofs.Math.Nat.{le-max_left, le-max_right, max-le}
 use native.Mathlib.Decide.{ℕ_discrete}
 use lib.Dec.{eqb}
 use borrow.Author.Tests.{eq-eqb, ne_eqb}
 use Rattle.std.specs.Bool.{then_some}
-use lib.ListN.{length, get_or, set, drop, length-drop, drop_of_length-le}
+use lib.ListN.{length, get_or, set, length-drop}
 use lib.Seq.{drop-cons, get_or-drop}
 use Rattle.rules.specs.Limits.{SYMBOLS, RULEVARS}
 use Rattle.rules.specs.Tree.{Tree, Trees, var, app, size, sizes, count_trees}
 use Rattle.rules.specs.Store.{Made}
-use Rattle.rules.specs.Match.{matches}
+use Rattle.rules.specs.Match.{Bound, matches, match_all}
 use Rattle.terms.specs.declared.store.Mark.{Mark}
 use Rattle.terms.specs.Table.{node_at, args_of, tree_at, made, Shaped, is_var, is_app, Good}
-use Rattle.terms.specs.Patterns.{arity, Stands, bound_of, Cells, Matchable, Tried, hit, miss, TriedAt}
+use Rattle.terms.specs.Sets.{counted_from_1}
+use Rattle.terms.specs.Patterns.{arity, cells_of, bound_of, Cells, Matchable, AllMatchable, Tried, miss, TriedAt, TriedAll}
+use Rattle.terms.specs.Laws.Bound.{cells_long, cell_of, cells_of_set}
 use Rattle.terms.specs.Laws.Tables.{length_trees, tree_here, shaped_some, args_count}
 use Rattle.terms.proofs.Arguments.{behind}
 use Rattle.terms.proofs.Nodes.{behind_head}
-use Rattle.terms.proofs.Matches.{stands_var, stands_app, reads_var, var_new, var_same, var_other, all_other, app_same, app_other, Matching}
-use Rattle.terms.proofs.Matches.{matching_reads, matching_on, matching_miss, matching_ends}
+use Rattle.terms.proofs.Matches.{stands_var, stands_app, reads_var, var_new, var_same, var_other, all_other, app_same, app_other}
 
 -- The node of a term -------------------------------------------------------------------------------------------------------------
 
@@ -50,14 +51,23 @@ module _ (I W : List ℕ) (m : Mark) (id : ℕ) (w : List ℕ) (g : Good I W m) 
       let t = arg_low id (1 + k) node_shaped (omega arith) (omega arith) in
       omega arith
 
--- The loop -----------------------------------------------------------------------------------------------------------------------
+-- What falls ---------------------------------------------------------------------------------------------------------------------
 
--- argument k of the term, of those in A, is the next
-pub record Looping (S P I W : List ℕ) (m : Mark) (B : List ℕ) (at id : ℕ) (A C : List ℕ) (place k : ℕ) : Type 0 where
-  pub asked : Matchable S P I W m B at id
-  pub low : (j : ℕ) → j < length A → get_or A j 0 < id
-  pub long : length C ≡ length B
-  pub going : (p : Tree) → Stands S P at p → Matching S P (made I W m) (matches p (get_or (made I W m) id (var 0)) (bound_of (made I W m) B)) (at + size p) C place (drop k A)
+-- one more than the greatest of the numbers
+pub above : List ℕ → ℕ
+above [] = 0
+above (x ∷ xs) = max (suc x) (above xs)
+
+pub above_all : (xs : List ℕ) (k : ℕ) → k < length xs → get_or xs k 0 < above xs
+unfolding above
+above_all [] k h = absurd (omega arith)
+above_all (x ∷ xs) zero h = let a = le-max_left (suc x) (above xs) in omega arith
+above_all (x ∷ xs) (suc k) h = let a = le-max_right (suc x) (above xs) in let b = above_all xs k (omega arith) in omega arith
+
+above_least : (xs : List ℕ) (n : ℕ) → ((k : ℕ) → k < length xs → get_or xs k 0 < n) → above xs ≤ n
+unfolding above
+above_least [] n f = omega arith
+above_least (x ∷ xs) n f = max-le (let z = f 0 (omega arith) in omega arith) (above_least xs n (λ k h. f (suc k) (omega arith)))
 
 -- The head -----------------------------------------------------------------------------------------------------------------------
 
@@ -80,7 +90,7 @@ module _ (S P I W : List ℕ) (m : Mark) (B : List ℕ) (at id : ℕ) (q : Match
       let v = stands_var S P at p s l in
       subst (λ (t : Tree). Tried M D (matches t (get_or M id (var 0)) (bound_of M B)) (at + size t) r) (sym v.0) (f v.1)
 
-  pub term_new : SYMBOLS ≤ get_or P at 0 → get_or B (get_or P at 0 - SYMBOLS) 0 ≡ 0 → TriedAt S P I W m B (set B (get_or P at 0 - SYMBOLS) (id + 1)) at id (some (at + 1))
+  term_new : SYMBOLS ≤ get_or P at 0 → get_or B (get_or P at 0 - SYMBOLS) 0 ≡ 0 → TriedAt S P I W m B (set B (get_or P at 0 - SYMBOLS) (id + 1)) at id (some (at + 1))
   term_new l e = as_var _ _ l (λ small. var_new M B (get_or P at 0 - SYMBOLS) id cells_made small there_made e at)
 
   term_same : SYMBOLS ≤ get_or P at 0 → get_or B (get_or P at 0 - SYMBOLS) 0 ≡ id + 1 → TriedAt S P I W m B B at id (some (at + 1))
@@ -88,16 +98,6 @@ module _ (S P I W : List ℕ) (m : Mark) (B : List ℕ) (at id : ℕ) (q : Match
 
   term_differs : SYMBOLS ≤ get_or P at 0 → (get_or B (get_or P at 0 - SYMBOLS) 0 ≡ 0 → ⊥) → (get_or B (get_or P at 0 - SYMBOLS) 0 ≡ id + 1 → ⊥) → TriedAt S P I W m B B at id nothing
   term_differs l n e = as_var _ _ l (λ small. var_other M B (get_or P at 0 - SYMBOLS) id cells_made small there_made q.good.apart n e at)
-
-  pub term_meets : SYMBOLS ≤ get_or P at 0 → (get_or B (get_or P at 0 - SYMBOLS) 0 ≡ 0 → ⊥)
-      → TriedAt S P I W m B B at id (then_some (eqb (get_or B (get_or P at 0 - SYMBOLS) 0) (id + 1)) (at + 1))
-  term_meets l n = elim (ℕ_discrete (get_or B (get_or P at 0 - SYMBOLS) 0) (id + 1)) [
-    | yes e ↦ rw (eq-eqb _ _ e) (term_same l e)
-    | no q ↦ rw (ne_eqb _ _ q) (term_differs l n q)
-  ]
-
-  pub cell_in : SYMBOLS ≤ get_or P at 0 → get_or P at 0 - SYMBOLS < length B
-  cell_in l = let a = reads_var S P at q.reads l in let b = q.cells.long in omega arith
 
   module _ (w : List ℕ) (e : w ≡ node_at I W id) (l : get_or P at 0 < SYMBOLS) where
     as_app : ((ts : Trees) → count_trees ts ≡ arity S (get_or P at 0) → matches (app (get_or P at 0) ts) (tree_at M (get_or w 0 0 ∷ behind w)) (bound_of M B) ≡ nothing)
@@ -117,67 +117,57 @@ module _ (S P I W : List ℕ) (m : Mark) (B : List ℕ) (at id : ℕ) (q : Match
           app_same M (get_or P at 0) ts (bound_of M B) l (get_or w 0 0) (behind w) h
           ∙ all_other ts (args_of M (behind w)) (bound_of M B) (λ d. let a = args_count M (behind w) in n (omega arith)))
 
-      pub looping_begins : length (behind w) ≡ k → Looping S P I W m B at id (behind w) B (at + 1) 0
-      unfolding size
-      looping_begins n =
-          record {
-            asked = q;
-            low = arg_falls I W m id w q.good q.there e;
-            long = refl;
-            going = λ p st.
-                let a = stands_app S P at p st l in
-                let c = a.count in
-                let z = ap size a.is in
-                record {
-                  patterns = a.args;
-                  stands = a.rest;
-                  count = omega arith;
-                  ends = let y : at + 1 + sizes a.args ≡ at + suc (sizes a.args) = omega arith in y ∙ ap (λ (k : ℕ). at + k) (sym z);
-                  cells = cells_made;
-                  left =
-                      ap (λ (t : Tree). matches t (get_or M id (var 0)) (bound_of M B)) a.is
-                      ∙ ap (λ (t : Tree). matches (app (get_or P at 0) a.args) t (bound_of M B)) (tree_split I W m id w q.good q.there e)
-                      ∙ app_same M (get_or P at 0) a.args (bound_of M B) l (get_or w 0 0) (behind w) h;
-                };
-          }
+      module _ (n : length (behind w) ≡ k) where
+        pub args_asked : AllMatchable S P I W m B (at + 1) (behind w)
+        args_asked =
+            let a = stands_app S P at q.reads.tree q.reads.stands l in
+            let c = a.count in
+            let t = q.there in
+            record {
+              good = q.good;
+              symbols = q.symbols;
+              reads = record { patterns = a.args; stands = a.rest; count = omega arith };
+              cells = q.cells;
+              there = λ j h. let z = arg_falls I W m id w q.good q.there e j h in omega arith;
+            }
 
-module _ (S P I W : List ℕ) (m : Mark) (B : List ℕ) (at id : ℕ) (A C : List ℕ) (place k : ℕ) (q : Looping S P I W m B at id A C place k) (h : k < length A) where
-  abbrev N : Made
-  N = made I W m
+        pub args_below : above (behind w) ≤ id
+        args_below = above_least (behind w) id (arg_falls I W m id w q.good q.there e)
 
-  next : (p : Tree) → Stands S P at p → Matching S P N (matches p (get_or N id (var 0)) (bound_of N B)) (at + size p) C place (get_or A k 0 ∷ drop (suc k) A)
-  next p st = subst (Matching S P N (matches p (get_or N id (var 0)) (bound_of N B)) (at + size p) C place) (drop-cons A k 0 h) (q.going p st)
+        pub args_tried : (C : List ℕ) (r : Option ℕ) → TriedAll S P I W m B C (at + 1) (behind w) r → TriedAt S P I W m B C at id r
+        unfolding size
+        args_tried C r t p st =
+            let a = stands_app S P at p st l in
+            let c = a.count in
+            let z : at + 1 + sizes a.args ≡ at + suc (sizes a.args) = omega arith in
+            let ends : at + 1 + sizes a.args ≡ at + size p = z ∙ ap (λ (k : ℕ). at + k) (sym (ap size a.is)) in
+            let is : match_all a.args (args_of M (behind w)) (bound_of M B) ≡ matches p (get_or M id (var 0)) (bound_of M B) =
+            sym (ap (λ (t : Tree). matches t (get_or M id (var 0)) (bound_of M B)) a.is
+            ∙ ap (λ (t : Tree). matches (app (get_or P at 0) a.args) t (bound_of M B)) (tree_split I W m id w q.good q.there e)
+            ∙ app_same M (get_or P at 0) a.args (bound_of M B) l (get_or w 0 0) (behind w) h) in
+            subst (λ (j : ℕ). Tried M C (matches p (get_or M id (var 0)) (bound_of M B)) j r) ends
+            (subst (λ (K : Option Bound). Tried M C K (at + 1 + sizes a.args) r) is (t a.args a.rest (omega arith)))
 
-  pub looping_asks : Matchable S P I W m C place (get_or A k 0)
-  looping_asks =
-      let w = next q.asked.reads.tree q.asked.reads.stands in
-      let a = q.low k h in
-      let b = q.asked.there in
-      record {
-        good = q.asked.good;
-        symbols = q.asked.symbols;
-        reads = matching_reads S P N _ _ C place _ _ w;
-        cells = record { long = w.cells.long; within = λ v. let z = length_trees I W m.terms in let y = w.cells.within v in omega arith };
-        there = omega arith;
-      }
+-- A variable's binding -------------------------------------------------------------------------------------------------------------
 
-  module _ (D : List ℕ) where
-    pub looping_miss : TriedAt S P I W m C D place (get_or A k 0) nothing → TriedAt S P I W m B D at id nothing
-    looping_miss c p st = let a = matching_miss S P N _ _ C place _ _ D (next p st) c refl in miss a.0 a.1 refl
+module _ (S P I W : List ℕ) (m : Mark) (O : List (Option ℕ)) (at id : ℕ) (q : Matchable S P I W m (cells_of O) at id) (l : SYMBOLS ≤ get_or P at 0) where
+  abbrev v : ℕ
+  v = get_or P at 0 - SYMBOLS
 
-    pub looping_on : (r : ℕ) → TriedAt S P I W m C D place (get_or A k 0) (some r) → length D ≡ length C → Looping S P I W m B at id A D r (k + 1)
-    looping_on r c l =
-        record {
-          asked = q.asked;
-          low = q.low;
-          long = l ∙ q.long;
-          going = λ p st.
-              subst (λ (j : ℕ). Matching S P N (matches p (get_or N id (var 0)) (bound_of N B)) (at + size p) D r (drop j A)) (sym (add-one k))
-              (matching_on S P N _ _ C place _ _ D (next p st) c r refl);
-        }
+  pub bound_in : v < RULEVARS
+  bound_in = reads_var S P at q.reads l
 
-pub looping_ends : (S P I W : List ℕ) (m : Mark) (B : List ℕ) (at id : ℕ) (A C : List ℕ) (place k : ℕ) → Looping S P I W m B at id A C place k → length A ≤ k → TriedAt S P I W m B C at id (some place)
-looping_ends S P I W m B at id A C place k q h p st =
-    let N : Made = made I W m in
-    let a = matching_ends S P N _ _ C place (subst (Matching S P N (matches p (get_or N id (var 0)) (bound_of N B)) (at + size p) C place) (drop_of_length-le A {i = k} h) (q.going p st)) in
-    hit a.0 a.1 (ap (λ (r : ℕ). some r) a.2)
+  cell_is : (d o : Option ℕ) → get_or O v d ≡ o → get_or (cells_of O) v 0 ≡ counted_from_1 o
+  cell_is d o e = let i = bound_in in let n = cells_long O in let c = q.cells.long in cell_of O v d (omega arith) ∙ ap counted_from_1 e
+
+  pub bound_new : (d : Option ℕ) → get_or O v d ≡ nothing → TriedAt S P I W m (cells_of O) (cells_of (set O v (some id))) at id (some (at + 1))
+  bound_new d e =
+      subst (λ (C : List ℕ). TriedAt S P I W m (cells_of O) C at id (some (at + 1))) (sym (cells_of_set O v id)) (term_new S P I W m (cells_of O) at id q l (cell_is d nothing e))
+
+  pub bound_meets : (d : Option ℕ) (t : ℕ) → get_or O v d ≡ some t → TriedAt S P I W m (cells_of O) (cells_of O) at id (then_some (eqb t id) (at + 1))
+  bound_meets d t e =
+      let c : get_or (cells_of O) v 0 ≡ suc t = cell_is d (some t) e in
+      elim (ℕ_discrete t id) [
+        | yes p ↦ rw (eq-eqb _ _ p) (term_same S P I W m (cells_of O) at id q l (omega arith))
+        | no n ↦ rw (ne_eqb _ _ n) (term_differs S P I W m (cells_of O) at id q l (λ z. omega arith) (λ z. n (omega arith)))
+      ]

@@ -6,9 +6,11 @@ use Prim.Native.Nat.{ℕ, zero, suc, ◌+◌, ◌≤◌, ◌<◌, ◌-◌, ◌*�
 use native.Mathlib.Omega.{arith}
 use native.Mathlib.Numerals.{add-one}
 use lib.ListN.{length, get_or, set, drop, length-set, drop_of_length-le, take, replicate, length-drop}
-use lib.Seq.{get_or-set_same, get_or-set_other, get_or-drop, drop-cons, take_all}
+use lib.Seq.{get_or-set_same, get_or-set_other, get_or-drop, take_all}
 use borrow.Rule.Slice.PartMut.{put_mid}
 use Rattle.std.specs.Int.{from_bool}
+use Rattle.std.specs.Bool.{MatchBool}
+use Rattle.std.specs.List.{AllWithin, HoldsAt}
 use lib.Dec.{eqb}
 use Rattle.rules.specs.Limits.{SYMBOLS, TERMS, WORDS}
 use Rattle.rules.specs.Tree.{var, is_open, are_open}
@@ -37,16 +39,30 @@ arg_in n i (is_var {h = h} p u) l f b = absurd (omega arith)
 arg_in n zero (is_app {xs = xs} p b) l f k = absurd (omega arith)
 arg_in n (suc i) (is_app {xs = xs} p b) l f k = b i (omega arith)
 
--- what is left of the arguments decides
-pub record Flagging (M : Made) (w args : List ℕ) (i : ℕ) : Type 0 where
-  pub left : is_open (tree_at M w) ≡ are_open (args_of M (drop i args))
-
 pub behind_head : (w : List ℕ) → take (length w - 1) (drop 1 w) ≡ drop 1 w
 behind_head w = take_all (length w - 1) (drop 1 w) (let l = length-drop 1 w in omega arith)
 
-pub flagging_begins : (M : Made) (w : List ℕ) → 0 < length w → get_or w 0 0 < SYMBOLS → Flagging M w (take (length w - 1) (drop 1 w)) 0
-flagging_begins M [] l h = absurd (omega arith)
-flagging_begins M (x ∷ xs) l h = record { left = open_app M x xs h ∙ ap (λ (l : List ℕ). are_open (args_of M l)) (sym (behind_head (x ∷ xs))) }
+-- the arguments of a symbol decide
+open_args : (M : Made) (w : List ℕ) → 0 < length w → get_or w 0 0 < SYMBOLS → is_open (tree_at M w) ≡ are_open (args_of M (take (length w - 1) (drop 1 w)))
+open_args M [] l h = absurd (omega arith)
+open_args M (x ∷ xs) l h = open_app M x xs h ∙ ap (λ (l : List ℕ). are_open (args_of M l)) (sym (behind_head (x ∷ xs)))
+
+module _ (M : Made) where
+  one_open : (xs : List ℕ) (k : ℕ) → k < length xs → is_open (get_or M (get_or xs k 0) (var 0)) ≡ true → are_open (args_of M xs) ≡ true
+  unfolding args_of is_open
+  one_open [] k h e = absurd (omega arith)
+  one_open (x ∷ xs) zero h e = ap (λ (b : Bool). elim b [ true ↦ true | false ↦ are_open (args_of M xs) ]) e
+  one_open (x ∷ xs) (suc k) h e = go (is_open (get_or M x (var 0))) (one_open xs k (omega arith) e)
+    where
+      go : (b : Bool) → are_open (args_of M xs) ≡ true → elim b [ true ↦ true | false ↦ are_open (args_of M xs) ] ≡ true
+      go true r = refl
+      go false r = r
+
+  none_open : (xs : List ℕ) → ((k : ℕ) → k < length xs → is_open (get_or M (get_or xs k 0) (var 0)) ≡ false) → are_open (args_of M xs) ≡ false
+  unfolding args_of is_open
+  none_open [] f = refl
+  none_open (x ∷ xs) f =
+      ap (λ (b : Bool). elim b [ true ↦ true | false ↦ are_open (args_of M xs) ]) (f 0 (omega arith)) ∙ none_open xs (λ k h. f (suc k) (omega arith))
 
 module _ (I W : List ℕ) (m : Mark) (g : Good I W m) (w : List ℕ) (s : Shaped m.terms w) (small : get_or w 0 0 < SYMBOLS) where
   abbrev args : List ℕ
@@ -60,33 +76,22 @@ module _ (I W : List ℕ) (m : Mark) (g : Good I W m) (w : List ℕ) (s : Shaped
         let a = arg_in m.terms (1 + i) s small (omega arith) (omega arith) in
         omega arith
 
-    pub flagging_held : HeldIn I (get_or args i 0)
-    flagging_held = record { words = W; held = record { mark = m; good = g; there = arg_below } }
+    pub arg_held : HeldIn I (get_or args i 0)
+    arg_held = record { words = W; held = record { mark = m; good = g; there = arg_below } }
 
-    module _ (q : Flagging (made I W m) w args i) where
-      step : are_open (args_of (made I W m) (drop i args))
-          ≡ elim (is_open (get_or (made I W m) (get_or args i 0) (var 0))) [ true ↦ true | false ↦ are_open (args_of (made I W m) (drop (suc i) args)) ]
-      unfolding args_of is_open
-      step = ap (λ (l : List ℕ). are_open (args_of (made I W m) l)) (drop-cons args i 0 h)
+  -- what is known of the arguments where one was found, or none
+  pub args_decide : {r : Bool} → MatchBool r ((k : ℕ) × (k < length args) × HoldsAt (λ id. OpenIs I id true) args k) (AllWithin (λ id. OpenIs I id false) args 0 (length args))
+      → r ≡ is_open (tree_at (made I W m) w)
+  args_decide {r} d = go r d ∙ sym (open_args (made I W m) w (some_word s) small)
+    where
+      some_word : {v : List ℕ} → Shaped m.terms v → 0 < length v
+      some_word (is_var p u) = omega arith
+      some_word (is_app p b) = omega arith
 
-      module _ {r : Bool} (o : OpenIs I (get_or args i 0) r) where
-        open_arg : r ≡ is_open (get_or (made I W m) (get_or args i 0) (var 0))
-        open_arg = o W m g arg_below
-
-        pub flagging_hit : r ≡ true → true ≡ is_open (tree_at (made I W m) w)
-        flagging_hit e =
-            sym (q.left ∙ step ∙ ap (λ (b : Bool). elim b [ true ↦ true | false ↦ are_open (args_of (made I W m) (drop (suc i) args)) ]) (sym open_arg ∙ e))
-
-        pub flagging_on : r ≡ false → Flagging (made I W m) w args (i + 1)
-        flagging_on e =
-            record {
-              left = q.left ∙ step ∙ ap (λ (b : Bool). elim b [ true ↦ true | false ↦ are_open (args_of (made I W m) (drop (suc i) args)) ]) (sym open_arg ∙ e)
-                  ∙ ap (λ (k : ℕ). are_open (args_of (made I W m) (drop k args))) (sym (add-one i));
-            }
-
-pub flagging_ends : (M : Made) (w args : List ℕ) (i : ℕ) → Flagging M w args i → length args ≤ i → false ≡ is_open (tree_at M w)
-unfolding args_of is_open
-flagging_ends M w args i q h = sym (q.left ∙ ap (λ (l : List ℕ). are_open (args_of M l)) (drop_of_length-le args {i = i} h))
+      go : (r : Bool) → MatchBool r ((k : ℕ) × (k < length args) × HoldsAt (λ id. OpenIs I id true) args k) (AllWithin (λ id. OpenIs I id false) args 0 (length args))
+          → r ≡ are_open (args_of (made I W m) args)
+      go true (k, h, o) = sym (one_open (made I W m) args k h (sym (o 0 W m g (arg_below k h))))
+      go false f = sym (none_open (made I W m) args (λ k h. sym (f k 0 (omega arith) h W m g (arg_below k h))))
 
 pub flag_byte : (b : Bool) → from_bool b ≡ flag b
 unfolding flag

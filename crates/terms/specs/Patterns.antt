@@ -1,6 +1,6 @@
 -- Rules' patterns over the store: how pattern words stand for a pattern, how cells stand for what a rule's variables are bound to, and
 -- what matching and building answer. Assumes nothing.
-use Rattle.std.specs.Prelude.{◌≡◌, ℕ, zero, suc, ◌+◌, ◌*◌, ◌≤◌, ◌<◌, Bool, true, false, List, length, get_or, ltb, Option, Some as some, None as nothing, Result, Ok, Err}
+use Rattle.std.specs.Prelude.{◌≡◌, ℕ, zero, suc, ◌+◌, ◌*◌, ◌≤◌, ◌<◌, Bool, true, false, List, length, map, get_or, ltb, Option, Some as some, None as nothing, Result, Ok, Err}
 use Rattle.rules.specs.Limits.{SYMBOLS, ARGUMENTS, RULEVARS}
 use Rattle.rules.specs.Out.{Out, ok, refuse}
 use Rattle.rules.specs.Tree.{Tree, Trees, var, app, none, more, size, sizes, count_trees}
@@ -10,6 +10,7 @@ use Rattle.terms.specs.declared.store.Mark.{Mark}
 use Rattle.terms.specs.declared.patterns.Built.{Built}
 use Rattle.questions.specs.Numbers.{number_of, detail_of}
 use Rattle.questions.specs.declared.Question.{Question}
+use Rattle.terms.specs.Sets.{counted_from_1}
 use Rattle.terms.specs.Table.{made, args_of, Good, Grown}
 
 -- Patterns in words ------------------------------------------------------------------------------------------------------------
@@ -66,6 +67,10 @@ args_by_table S h = elim (ltb h SYMBOLS) [ true ↦ arity S h | false ↦ 0 ]
 
 -- Bindings in cells ------------------------------------------------------------------------------------------------------------
 
+-- the cells that stand for what the variables are bound to
+abbrev pub cells_of : List (Option ℕ) → List ℕ
+cells_of = map counted_from_1
+
 -- a cell: 0 for none, or a term's number with 1 added
 unfoldable pub tree_in : Made → ℕ → Option Tree
 tree_in M zero = nothing
@@ -103,16 +108,7 @@ pub data Tried (M : Made) (C : List ℕ) (K : Option Bound) (behind : ℕ) (r : 
   hit : K ≡ some (bound_of M C) → Cells (length M) C → r ≡ some behind → Tried M C K behind r
   miss : K ≡ nothing → length C ≡ RULEVARS → r ≡ nothing → Tried M C K behind r
 
--- the same for many patterns, with a yes or no
-pub data AllTried (M : Made) (C : List ℕ) (K : Option Bound) (r : Bool) : Type 0 where
-  hits : K ≡ some (bound_of M C) → Cells (length M) C → r ≡ true → AllTried M C K r
-  misses : K ≡ nothing → length C ≡ RULEVARS → r ≡ false → AllTried M C K r
-
--- what is answered: without a match the cells are as they were, B
-pub data Matched (M : Made) (B C : List ℕ) (K : Option Bound) (behind : ℕ) (r : Option ℕ) : Type 0 where
-  matched : K ≡ some (bound_of M C) → Cells (length M) C → r ≡ some behind → Matched M B C K behind r
-  other : K ≡ nothing → C ≡ B → r ≡ nothing → Matched M B C K behind r
-
+-- what is answered, with a yes or no: without a match the cells are as they were, B
 pub data AllMatched (M : Made) (B C : List ℕ) (K : Option Bound) (r : Bool) : Type 0 where
   all : K ≡ some (bound_of M C) → Cells (length M) C → r ≡ true → AllMatched M B C K r
   not_all : K ≡ nothing → C ≡ B → r ≡ false → AllMatched M B C K r
@@ -122,14 +118,10 @@ abbrev pub TriedAt : List ℕ → List ℕ → List ℕ → List ℕ → Mark �
 TriedAt S P I W m B C at id r =
     (p : Tree) → Stands S P at p → Tried (made I W m) C (matches p (get_or (made I W m) id (var 0)) (bound_of (made I W m) B)) (at + size p) r
 
-abbrev pub MatchedAt : List ℕ → List ℕ → List ℕ → List ℕ → Mark → List ℕ → List ℕ → ℕ → ℕ → Option ℕ → Type 0
-MatchedAt S P I W m B C at id r =
-    (p : Tree) → Stands S P at p → Matched (made I W m) B C (matches p (get_or (made I W m) id (var 0)) (bound_of (made I W m) B)) (at + size p) r
-
 -- whatever patterns stand there, as many as terms
-abbrev pub TriedAll : List ℕ → List ℕ → List ℕ → List ℕ → Mark → List ℕ → List ℕ → ℕ → List ℕ → Bool → Type 0
+abbrev pub TriedAll : List ℕ → List ℕ → List ℕ → List ℕ → Mark → List ℕ → List ℕ → ℕ → List ℕ → Option ℕ → Type 0
 TriedAll S P I W m B C at xs r =
-    (ps : Trees) → Standing S P at ps → count_trees ps ≡ length xs → AllTried (made I W m) C (match_all ps (args_of (made I W m) xs) (bound_of (made I W m) B)) r
+    (ps : Trees) → Standing S P at ps → count_trees ps ≡ length xs → Tried (made I W m) C (match_all ps (args_of (made I W m) xs) (bound_of (made I W m) B)) (at + sizes ps) r
 
 abbrev pub MatchedAll : List ℕ → List ℕ → List ℕ → List ℕ → Mark → List ℕ → List ℕ → ℕ → List ℕ → Bool → Type 0
 MatchedAll S P I W m B C at xs r =

@@ -1,14 +1,17 @@
-// Rules' patterns over the store (specs/Patterns.antt says how words stand for a pattern and cells for bindings). A pattern is read in
-// prefix notation from a place on, and each function finds the place behind it on the way. A cell of the bindings is 0 for none, or a
-// number with 1 added: they are cells of lent tables.
+// Rules' patterns over the store (specs/Patterns.antt says how words stand for a pattern, and what is bound for the definition's bindings). A
+// pattern is read in prefix notation from a place on, and each function finds the place behind it on the way.
 ghost use Rattle.std.specs.Prelude.{◌≡◌, ◌*◌, ◌<◌, length};
 ghost use Rattle.rules.specs.Limits.{SYMBOLS};
 ghost use Rattle.terms.specs.Lent.{SameTables};
-ghost use Rattle.terms.specs.Patterns.{arity, Skippable, Skipped, args_by_table, Matchable, AllMatchable, TriedAt, TriedAll, MatchedAt, MatchedAll, Buildable, BuiltAt};
+ghost use Rattle.terms.specs.Patterns.{arity, Skippable, Skipped, args_by_table, Matchable, AllMatchable, TriedAt, TriedAll, MatchedAll, Buildable, BuiltAt, cells_of};
 
+use crate::heads::{Head, head_of};
 use crate::store::{Store, Terms};
 use questions::Question;
-use rules::{NODE, RULEVARS, SYMBOLS};
+use rules::{NODE, RULEVARS};
+
+// What a rule's variables are bound to: the numbers of terms.
+pub type Bound = [Option<usize>; RULEVARS];
 
 // A term's number, and the place behind the pattern's words.
 #[derive(Clone, Copy, Debug, PartialEq, Eq)]
@@ -36,14 +39,14 @@ impl Patterns<'_> {
     }
 
     // How many arguments stand behind a word: a symbol's, or none behind a variable.
-    fn args_of(&self, head: usize) -> usize
+    fn args_of(&self, word: u32) -> usize
         requires { length self.now.symbols.now ≡ 4 * SYMBOLS }
-        ensures { result ≡ args_by_table self.now.symbols.now head }
+        ensures { result ≡ args_by_table self.now.symbols.now word }
     {
-        if head < SYMBOLS {
-            return self.arity_of(head);
+        match head_of(word) {
+            Head::Symbol(symbol) => self.arity_of(symbol),
+            Head::Variable(_) => 0,
         }
-        0
     }
 
     // The place behind the words of n patterns.
@@ -55,121 +58,99 @@ impl Patterns<'_> {
         let mut left = n;
         // a work list: a word may bring patterns along
         while left != 0 {
-            let args = self.args_of(self.words[place] as usize);
+            let args = self.args_of(self.words[place]);
             left = left - 1 + args;
             place += 1;
         }
         place
     }
 
-    // The place behind the words of the pattern at `at`, if it meets the term `id`; if it is no match, the cells are of no use.
+    // The place behind the words of the pattern at `at`, if it meets the term `id`; if it is no match, what is bound is of no use.
+    #[cycle(matching)]
     fn match_term(
         &self,
         terms: &Terms<'_>,
-        bound: &mut [u32],
+        bound: &mut Bound,
         at: usize,
         id: usize,
     ) -> Option<usize>
-        requires { Matchable self.now.symbols.now self.now.words.now terms.now.index.now terms.now.words.now terms.now.mark bound.old at id }
-        ensures { TriedAt self.now.symbols.now self.now.words.now terms.now.index.now terms.now.words.now terms.now.mark bound.old bound.new at id result }
+        requires { Matchable self.now.symbols.now self.now.words.now terms.now.index.now terms.now.words.now terms.now.mark (cells_of bound.old) at id }
+        ensures { TriedAt self.now.symbols.now self.now.words.now terms.now.index.now terms.now.words.now terms.now.mark (cells_of bound.old) (cells_of bound.new) at id result }
     {
-        let head = self.words[at] as usize;
-        if SYMBOLS <= head {
-            let v = head - SYMBOLS;
-            let cell = bound[v] as usize;
-            if cell == 0 {
-                bound[v] = (id + 1) as u32;
-                return Some(at + 1);
+        match head_of(self.words[at]) {
+            Head::Variable(v) => {
+                let Some(term) = bound[v] else {
+                    bound[v] = Some(id);
+                    return Some(at + 1);
+                };
+                (term == id).then_some(at + 1)
             }
-            return (cell == id + 1).then_some(at + 1);
+            Head::Symbol(symbol) => {
+                let node = terms.node(id);
+                if node[0] as usize != symbol {
+                    return None;
+                }
+                let args = &node[1..];
+                if args.len() != self.arity_of(symbol) {
+                    return None;
+                }
+                self.match_terms(terms, bound, at + 1, args)
+            }
         }
-        let node = terms.node(id);
-        if node[0] as usize != head {
-            return None;
-        }
-        let args = &node[1..];
-        if args.len() != self.arity_of(head) {
-            return None;
-        }
-        let mut place = at + 1;
-        for arg in args {
-            place = self.match_term(terms, bound, place, *arg as usize)?;
+    }
+
+    // The place behind the words of the patterns from `at` on, if they meet the terms one by one.
+    #[cycle(matching)]
+    fn match_terms(
+        &self,
+        terms: &Terms<'_>,
+        bound: &mut Bound,
+        at: usize,
+        ids: &[u32],
+    ) -> Option<usize>
+        requires { AllMatchable self.now.symbols.now self.now.words.now terms.now.index.now terms.now.words.now terms.now.mark (cells_of bound.old) at ids.now }
+        ensures { TriedAll self.now.symbols.now self.now.words.now terms.now.index.now terms.now.words.now terms.now.mark (cells_of bound.old) (cells_of bound.new) at ids.now result }
+    {
+        let mut place = at;
+        for id in ids {
+            place = self.match_term(terms, bound, place, *id as usize)?;
         }
         Some(place)
     }
 
-    // Whether patterns from `at` on meet the terms one by one. `match_term` has this walk too: one function for both would be a part of its recursion,
-    // whose measure is the term's number, and a slice of terms has none.
-    fn match_terms(&self, terms: &Terms<'_>, bound: &mut [u32], at: usize, ids: &[u32]) -> bool
-        requires { AllMatchable self.now.symbols.now self.now.words.now terms.now.index.now terms.now.words.now terms.now.mark bound.old at ids.now }
-        ensures { TriedAll self.now.symbols.now self.now.words.now terms.now.index.now terms.now.words.now terms.now.mark bound.old bound.new at ids.now result }
+    // Patterns from `at` on against as many terms: whether all match; if not, what is bound is as it was.
+    pub fn match_all(&self, terms: &Terms<'_>, bound: &mut Bound, at: usize, ids: &[u32]) -> bool
+        requires { AllMatchable self.now.symbols.now self.now.words.now terms.now.index.now terms.now.words.now terms.now.mark (cells_of bound.old) at ids.now }
+        ensures { MatchedAll self.now.symbols.now self.now.words.now terms.now.index.now terms.now.words.now terms.now.mark (cells_of bound.old) (cells_of bound.new) at ids.now result }
     {
-        let mut place = at;
-        for id in ids {
-            let Some(next) = self.match_term(terms, bound, place, *id as usize) else {
-                return false;
-            };
-            place = next;
-        }
-        true
-    }
-
-    // The pattern at `at` against the term `id`: the place behind the pattern's words; if it is no match, the cells are as they were.
-    pub fn matches(
-        &self,
-        terms: &Terms<'_>,
-        bound: &mut [u32],
-        at: usize,
-        id: usize,
-    ) -> Option<usize>
-        requires { Matchable self.now.symbols.now self.now.words.now terms.now.index.now terms.now.words.now terms.now.mark bound.old at id }
-        ensures { MatchedAt self.now.symbols.now self.now.words.now terms.now.index.now terms.now.words.now terms.now.mark bound.old bound.new at id result }
-    {
-        let mut old = [0u32; RULEVARS];
-        old.copy_from_slice(bound);
-        let place = self.match_term(terms, bound, at, id);
-        if place.is_none() {
-            bound.copy_from_slice(&old);
-        }
-        place
-    }
-
-    // Patterns from `at` on, a rule's premises, against as many terms: whether all match; if not, the cells are as they were. This and
-    // `matches` differ in the walk and in what they answer: one function over a closure would have to say by the closure's clause what the cells hold.
-    pub fn match_all(&self, terms: &Terms<'_>, bound: &mut [u32], at: usize, ids: &[u32]) -> bool
-        requires { AllMatchable self.now.symbols.now self.now.words.now terms.now.index.now terms.now.words.now terms.now.mark bound.old at ids.now }
-        ensures { MatchedAll self.now.symbols.now self.now.words.now terms.now.index.now terms.now.words.now terms.now.mark bound.old bound.new at ids.now result }
-    {
-        let mut old = [0u32; RULEVARS];
-        old.copy_from_slice(bound);
-        if self.match_terms(terms, bound, at, ids) {
+        let old = *bound;
+        if self.match_terms(terms, bound, at, ids).is_some() {
             return true;
         }
-        bound.copy_from_slice(&old);
+        *bound = old;
         false
     }
 
     // The pattern at `at` under the bindings comes into the store, arguments first, if each of its variables is bound and there is room.
-    pub fn build(&self, store: &mut Store<'_>, bound: &[u32], at: usize) -> Result<Built, Question>
-        requires { Buildable self.now.symbols.now self.now.words.now store.old.index.now store.old.words.now store.old.mark bound.now at }
+    pub fn build(&self, store: &mut Store<'_>, bound: &Bound, at: usize) -> Result<Built, Question>
+        requires { Buildable self.now.symbols.now self.now.words.now store.old.index.now store.old.words.now store.old.mark (cells_of bound.now) at }
         ensures same_tables { SameTables store.old store.new }
-        ensures built { BuiltAt self.now.symbols.now self.now.words.now store.old.index.now store.old.words.now store.new.index.now store.new.words.now store.old.mark store.new.mark bound.now at result }
+        ensures built { BuiltAt self.now.symbols.now self.now.words.now store.old.index.now store.old.words.now store.new.index.now store.new.words.now store.old.mark store.new.mark (cells_of bound.now) at result }
     {
-        let head = self.words[at] as usize;
-        if SYMBOLS <= head {
-            let cell = bound[head - SYMBOLS] as usize;
-            if cell == 0 {
-                return Err(Question::Matching);
+        let word = self.words[at];
+        let count = match head_of(word) {
+            Head::Variable(v) => {
+                let known = bound[v].ok_or(Question::Matching)?;
+                return Ok(Built {
+                    term: known,
+                    end: at + 1,
+                });
             }
-            return Ok(Built {
-                term: cell - 1,
-                end: at + 1,
-            });
-        }
-        let count = self.arity_of(head);
-        // as long as the longest node: there is no heap, and nothing of the core allocates
+            Head::Symbol(symbol) => self.arity_of(symbol),
+        };
+        // as long as the longest node: no heap, and the core stands on `std` alone, which has no vector without one (docs/DECISIONS.md)
         let mut node = [0u32; NODE];
-        node[0] = head as u32;
+        node[0] = word;
         let mut place = at + 1;
         for cell in node[1..=count].iter_mut() {
             let arg = self.build(store, bound, place)?;

@@ -1,6 +1,6 @@
 // A term under a substitution, with a memo of the results: recursion on falling term numbers, so that a shared subterm is visited once. A
-// term without variables is its own result. A cell of the map or the memo is 0 for none, or a number with 1 added: they are cells of lent
-// tables.
+// term without variables is its own result. A cell of the map or the memo is 0 for none, or a number with 1 added: `tariff_substitute` and
+// `tariff_unify` lend both as C's plain cells.
 ghost use Rattle.std.specs.Prelude.{◌≡◌, ◌++◌, ◌-◌, ◌≤◌, length, drop};
 ghost use Rattle.rules.specs.Limits.{NODE};
 ghost use Rattle.rules.specs.Store.{keep as keep_tree};
@@ -8,9 +8,10 @@ ghost use Rattle.terms.specs.Table.{tree_at, Shaped};
 ghost use Rattle.terms.specs.Lent.{GoodStore, SameTables, KeptAs, made_of};
 ghost use Rattle.terms.specs.Subst.{image, rebuilt, Rebuildable, Replacing, Substituted};
 
+use crate::heads::{Head, head_of};
 use crate::store::Store;
 use questions::Row;
-use rules::{NODE, SYMBOLS};
+use rules::NODE;
 
 // The number that the map gives the variable `v`, or `id` where it leaves the variable.
 fn image_of(map: &[u32], v: usize, id: usize) -> usize
@@ -23,7 +24,8 @@ fn image_of(map: &[u32], v: usize, id: usize) -> usize
     if bound == 0 { id } else { bound - 1 }
 }
 
-// The node that stands from `start` to `end`, with its arguments as the memo has them. The cells go by number, since behind a zip with
+// The node that stands from `start` to `end`, with its arguments as the memo has them. By two places, of which the relations speak, that
+// follow terms through a store that grows. The cells go by number, since behind a zip with
 // `iter_mut` nothing is known of what was written.
 fn gather(words: &[u32], memo: &[u32], start: usize, end: usize, node: &mut [u32])
     requires rebuildable { Rebuildable words.now memo.now start end }
@@ -31,6 +33,7 @@ fn gather(words: &[u32], memo: &[u32], start: usize, end: usize, node: &mut [u32
     ensures { node.new ≡ rebuilt words.now memo.now start end ++ drop (end - start) node.old }
 {
     node[0] = words[start];
+    // by its place: the store is lent on in each turn
     for at in start + 1..end {
         node[at - start] = memo[words[at] as usize] - 1;
     }
@@ -72,12 +75,12 @@ pub fn replace(
     }
     let start = terms.start_of(id);
     let end = terms.index[id] as usize;
-    let head = terms.words[start] as usize;
-    if SYMBOLS <= head {
-        let value = image_of(map, head - SYMBOLS, id);
+    if let Head::Variable(v) = head_of(terms.words[start]) {
+        let value = image_of(map, v, id);
         memo[id] = (value + 1) as u32;
         return Ok(value);
     }
+    // by its place: the store is lent on in each turn
     for at in start + 1..end {
         let arg = store.words[at] as usize;
         replace(store, map, memo, arg)?;

@@ -45,7 +45,8 @@ pub fn minus_from(set: &mut [u64], other: &[u64])
     }
 }
 
-// The lowest of a that is not in b; none where all of a is in b.
+// The lowest of a that is not in b; none where all of a is in b. A `for`: a chain (`zip`, `enumerate`, `find_map`) would carry the word and its
+// place through it, and is no plainer.
 pub fn lowest_outside(a: &[u64], b: &[u64]) -> Option<usize>
     requires { (length a.now ≡ length b.now) × (length a.now ≤ TERMWORDS) }
     ensures { counted_from_1 result ≡ least (64 * length a.now) (minus (holds a.now) (holds b.now)) }

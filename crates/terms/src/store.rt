@@ -10,6 +10,7 @@ ghost use Rattle.terms.specs.Table.{INDEX, BUCKETS, start, tree_at, node_at, has
 ghost use Rattle.terms.specs.Node.{seek, Linked, Unlinked, Held, HeldIn, HeadIs, OpenIs};
 ghost use Rattle.terms.specs.Lent.{GoodTerms, GoodStore, terms_made, terms_of, made_of, SameTables, KeptAs};
 
+use crate::heads::{Head, head_of};
 use questions::Row;
 use rules::{SYMBOLS, TERMS};
 
@@ -100,7 +101,8 @@ impl Terms<'_> {
         &self.words[self.start_of(id)..self.index[id] as usize]
     }
 
-    // The head of the term `id`: a symbol, or SYMBOLS and a variable's number.
+    // The head of the term `id`: a symbol, or SYMBOLS and a variable's number. Public and promised; nothing here calls it, since `head_of` takes
+    // words apart.
     pub fn head(&self, id: usize) -> usize
         requires { Held self.now.index.now self.now.words.now id }
         ensures { HeadIs self.now.index.now self.now.words.now id result }
@@ -141,16 +143,10 @@ impl Terms<'_> {
         requires shaped { Shaped self.now.mark.terms node.now }
         ensures { result ≡ is_open (tree_at (terms_made self.now) node.now) }
     {
-        if SYMBOLS <= node[0] as usize {
+        if let Head::Variable(_) = head_of(node[0]) {
             return true;
         }
-        // no `any`: the proof that its closure may call `is_open` does not close
-        for arg in &node[1..] {
-            if self.is_open(*arg as usize) {
-                return true;
-            }
-        }
-        false
+        node[1..].iter().any(|arg| self.is_open(*arg as usize))
     }
 }
 

@@ -7,10 +7,11 @@ ghost use Rattle.terms.specs.Table.{tree};
 ghost use Rattle.terms.specs.Sets.{holds};
 ghost use Rattle.terms.specs.Collect.{Seen, Readable, Visited};
 
+use crate::heads::{Head, head_of};
 use crate::sets::{has, insert};
 use crate::store::Terms;
 use cells::clear;
-use rules::{SYMBOLS, VARIABLEWORDS};
+use rules::VARIABLEWORDS;
 
 // The variables of the term `id` join the set, and its open nodes those that were visited; a term that was visited has its own there already,
 // so that over many calls, too, a shared subterm is visited once.
@@ -23,9 +24,8 @@ pub fn visit(terms: &Terms<'_>, id: usize, seen: &mut [u64], set: &mut [u64])
         return;
     }
     let node = terms.node(id);
-    let head = node[0] as usize;
-    if SYMBOLS <= head {
-        insert(set, head - SYMBOLS);
+    if let Head::Variable(v) = head_of(node[0]) {
+        insert(set, v);
         return;
     }
     for arg in &node[1..] {

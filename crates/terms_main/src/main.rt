@@ -6,23 +6,28 @@
 // (f (f x0 a) a) once x1 is bound; the third by the symbols a and b.
 #![tactic(auto)]
 
-ghost use Rattle.std.specs.Prelude.{◌≤◌, ◌<◌, length, IfOk, OnOk, IfSome};
+ghost use Rattle.std.specs.Prelude.{ℕ, ◌≤◌, ◌<◌, length, IfOk, OnOk, IfSome};
+ghost use Rattle.terms.specs.declared.store.Terms.{Terms as StoredTerms};
 ghost use Rattle.terms.specs.Lent.{GoodStore, GoodTerms, SameTables};
 ghost use Rattle.terms.specs.Theta.{Theta};
 ghost use Rattle.terms_main.specs.Placed.{Kept, Placed};
 
 use anyhow::{Context, Error, Result, anyhow, bail};
 use questions::Row;
-use rules::{PAIRS, SYMBOLS, TERMS, TERMWORDS, VARIABLES, VARIABLEWORDS, WORDS};
+use rules::{PAIRS, TERMS, TERMWORDS, VARIABLES, VARIABLEWORDS, WORDS};
 use std::alloc::Global;
+use std::fmt::{self, Display};
 use std::io::{self, BufWriter, Write};
+use std::marker::Model;
+use terms::heads::{Head, head_of};
 use terms::sets::has;
 use terms::store::{Mark, Store, Terms};
 use terms::substitute::substitute;
 use terms::variables::variables;
 use unification::unify::{Scratch, unify};
 
-// The symbols by their numbers: no enum, since a node holds them as numbers, which `show` would have to turn back.
+// The symbols by their numbers. No enum: a node holds numbers, so that `read` would cast each, and `Shown` turn each back by a `try_from` that says
+// the numbers again.
 const A: u32 = 0;
 
 const B: u32 = 1;
@@ -83,39 +88,52 @@ fn bindings(alloc: Global, store: &mut Store<'_>, s: usize, t: usize) -> Result<
     Ok(Some(theta))
 }
 
-// Writes the term `id`. No `Display`: its `fmt` asks nothing, so that a struct of the tables and the term would have to carry by an invariant that
-// the tables are good and the term is there.
-fn show<W: Write>(out: &mut W, terms: &Terms<'_>, id: usize) -> io::Result<()>
-    requires { GoodTerms terms.now × (id < terms.now.mark.terms) }
-{
-    let node = terms.node(id);
-    let head = node[0] as usize;
-    if SYMBOLS <= head {
-        return write!(out, "x{}", head - SYMBOLS);
+// A term that is there, to be written.
+#[derive(Drop)]
+struct Shown<'a> {
+    terms: Terms<'a>,
+    id: usize,
+}
+
+impl<'a> Model for Shown<'a> {
+    ghost Value = { StoredTerms × ℕ };
+
+    ghost view = { λ s. (s.terms, s.id) };
+
+    ghost invariant = { λ s. GoodTerms s.terms × (s.id < s.terms.mark.terms) };
+}
+
+impl fmt::Display for Shown<'_> {
+    fn fmt<W: fmt::Write>(&self, f: &mut fmt::Formatter<W>) -> fmt::Result {
+        let terms = self.terms;
+        let node = terms.node(self.id);
+        if let Head::Variable(v) = head_of(node[0]) {
+            return write!(f, "x{v}");
+        }
+        let name = match node[0] {
+            A => 'a',
+            B => 'b',
+            _ => 'f',
+        };
+        if node.len() == 1 {
+            return write!(f, "{name}");
+        }
+        write!(f, "({name}")?;
+        for arg in &node[1..] {
+            write!(f, " ")?;
+            let id = *arg as usize;
+            Shown { terms, id }.fmt(f)?;
+        }
+        write!(f, ")")
     }
-    let name = match node[0] {
-        A => 'a',
-        B => 'b',
-        _ => 'f',
-    };
-    if node.len() == 1 {
-        return write!(out, "{name}");
-    }
-    write!(out, "({name}")?;
-    for arg in &node[1..] {
-        write!(out, " ")?;
-        show(out, terms, *arg as usize)?;
-    }
-    write!(out, ")")
 }
 
 // Writes a word, the term `id`, and the line's end.
 fn show_line<W: Write>(out: &mut W, word: &str, terms: &Terms<'_>, id: usize) -> io::Result<()>
     requires { GoodTerms terms.now × (id < terms.now.mark.terms) }
 {
-    write!(out, "{word} ")?;
-    show(out, terms, id)?;
-    writeln!(out)
+    let shown = Shown { terms: *terms, id };
+    writeln!(out, "{word} {shown}")
 }
 
 // Writes the variables of the term `id`.
@@ -143,9 +161,11 @@ fn show_bindings<W: Write>(out: &mut W, terms: &Terms<'_>, theta: &[u32]) -> io:
 {
     for (v, value) in theta.iter().enumerate() {
         if *value != 0 {
-            write!(out, "x{v} = ")?;
-            show(out, terms, *value as usize - 1)?;
-            writeln!(out)?;
+            let value = Shown {
+                terms: *terms,
+                id: *value as usize - 1,
+            };
+            writeln!(out, "x{v} = {value}")?;
         }
     }
     Ok(())

@@ -2,7 +2,7 @@
 use mathlib.Core.Path.{◌≡◌, refl, sym, ap, ◌∙◌, subst}
 use mathlib.Core.Logic.{inl, inr}
 use mathlib.Core.Bool.{Bool, true, false}
-use Rattle.std.specs.Prelude.{Option, Some as some, Ok, Err}
+use Rattle.std.specs.Prelude.{Option, Some as some, Err}
 use mathlib.Core.List.{List, [], ◌∷◌, ◌++◌}
 use Prim.Native.Nat.{ℕ, zero, suc, ◌+◌, ◌-◌}
 use native.Mathlib.Omega.{arith}
@@ -22,13 +22,11 @@ use Rattle.meaning.specs.Unification.Peel.{Binds as BindsRightly, Peeled as Peel
 use Rattle.terms.specs.declared.store.Mark.{Mark}
 use Rattle.questions.specs.Numbers.{row_number}
 use Rattle.questions.specs.declared.Row.{Row}
-use Rattle.unification.specs.declared.peel.Step.{Step}
-use Rattle.unification.specs.declared.peel.Step.TheVariants.{Done, Clash, Binds}
 use Rattle.terms.specs.Table.{made, Refused, tree}
 use Rattle.terms.specs.Theta.{bindings, Theta}
 use Rattle.unification.specs.Extend.{Extendable, Bound, Extended}
 use Rattle.unification.specs.Unify.{Solved, Unsolved}
-use Rattle.unification.specs.Peel.{theta_of, pairs_of, weighs, peels, Results, Clashes, BindsOne, Finishes, PeeledAs, Solvable, solves, BoundMore}
+use Rattle.unification.specs.Peel.{theta_of, pairs_of, weighs, peels, Used, Clashes, BindsOne, Finishes, Solvable, solves, BoundMore}
 use Rattle.terms.specs.Laws.Growth.{grown_trans}
 use Rattle.terms.specs.Laws.Zeros.{get_d_zeros}
 use Rattle.terms.specs.Laws.Theta.{bindings_grown, theta_grown}
@@ -57,25 +55,21 @@ zeros : (l : List ℕ) → ((i : ℕ) → get_or l i 0 ≡ 0) → l ≡ replicat
 zeros [] h = refl
 zeros (c ∷ cs) h = let e = h 0 in let ih = zeros cs (λ i. h (suc i)) in λ i. e i ∷ ih i
 
-module _ (memo : List ℕ) (m : Mark) (r : Results memo m) where
-  pub results_long : m.terms ≡ length (take m.terms memo)
-  results_long = sym (length-take-le m.terms memo r.inside)
-
-  -- behind the terms that are there everything is zero
-  pub cleared : (now : List ℕ) → now ≡ replicate (length (take m.terms memo)) 0 → now ++ drop m.terms memo ≡ replicate (length memo) 0
+module _ (memo : List ℕ) (n : ℕ) (r : Used memo n) where
+  -- behind the cells that are used everything is zero
+  pub cleared : (now : List ℕ) → now ≡ replicate (length (take n memo)) 0 → now ++ drop n memo ≡ replicate (length memo) 0
   cleared now e =
-      let n = m.terms in
       let h = r.inside in
-      let a : now ≡ replicate n 0 = e ∙ ap (λ (k : ℕ). replicate k 0) (sym results_long) in
+      let a : now ≡ replicate n 0 = e ∙ ap (λ (k : ℕ). replicate k 0) (length-take-le n memo r.inside) in
       let k : length (drop n memo) ≡ length memo - n = length-drop n memo in
       let b : drop n memo ≡ replicate (length memo - n) 0 = zeros (drop n memo) behind ∙ ap (λ (j : ℕ). replicate j 0) k in
       let c : n + (length memo - n) ≡ length memo = omega arith in
       (λ i. a i ++ b i) ∙ replicate-append-replicate n (length memo - n) 0 ∙ ap (λ (j : ℕ). replicate j 0) c
     where
-      behind : (i : ℕ) → get_or (drop m.terms memo) i 0 ≡ 0
-      behind i = elim (ℕ_discrete (get_or memo (m.terms + i) 0) 0) [
-        | yes p ↦ get_or-drop m.terms memo i 0 ∙ p
-        | no p ↦ absurd (let z = r.below (m.terms + i) (omega arith) in omega arith)
+      behind : (i : ℕ) → get_or (drop n memo) i 0 ≡ 0
+      behind i = elim (ℕ_discrete (get_or memo (n + i) 0) 0) [
+        | yes p ↦ get_or-drop n memo i 0 ∙ p
+        | no p ↦ absurd (let z = r.below (n + i) (omega arith) in omega arith)
       ]
 
 -- One round ----------------------------------------------------------------------------------------------------------------------------
@@ -93,11 +87,6 @@ module _ (I W : List ℕ) (m : Mark) (theta map memo P seen : List ℕ) (w : ℕ
   -- the memo that was used and wiped is as it was
   pub wiped_back : (used now : List ℕ) → length used ≡ length memo → now ≡ replicate (length used) 0 → now ≡ memo
   wiped_back used now l e = e ∙ ap (λ (n : ℕ). replicate n 0) l ∙ sym q.no_memos
-
-  pub peeled_results : (J X memo' P' : List ℕ) (new : Mark) (v : ℕ) (s : Step) → PeeledAs I W J X m new memo' P' v K (Ok s) → Results memo' new
-  peeled_results J X memo' P' new v Done d = d.results
-  peeled_results J X memo' P' new v Clash d = d.results
-  peeled_results J X memo' P' new v (Binds x u) d = d.results
 
   module _ (J X memo' P' : List ℕ) (new : Mark) (v : ℕ) where
     peeled_to : (f : Found) (mid : Mark) → K ≡ ok f (made J X mid) → (n : ℕ) → solves (suc n) I W m theta P w ≡ outcome (λ ζ v. solve n ζ v) θ f (made J X mid)

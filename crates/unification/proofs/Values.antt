@@ -28,6 +28,7 @@ use Rattle.terms.specs.Laws.Theta.{bindings_snoc_some}
 
 -- The definition, one value at a time ------------------------------------------------------------------------------------------------
 
+-- that of `meaning` is private there, and `then_same` of `reading` stands above this crate
 then_pure : {S A : Type 0} (K : Out S A) → then K (λ a s. ok a s) ≡ K
 unfolding then
 then_pure (ok a s) = refl

@@ -123,10 +123,14 @@ pub record Lighter (I W J X : List ℕ) (old : Mark) (theta memo' P P' seen : Li
   pub less : weighs J X new theta P' v < weighs I W old theta P w
   pub makes : (k : ℕ) → peels (suc k) I W old theta P w ≡ peels k J X new theta P' v
 
--- the memo has results of terms that are there alone
-pub record Results (memo : List ℕ) (m : Mark) : Type 0 where
-  pub inside : m.terms ≤ length memo
-  pub below : (i : ℕ) → 0 < get_or memo i 0 → i < m.terms
+-- the memo has results in its first cells alone
+pub record Used (memo : List ℕ) (n : ℕ) : Type 0 where
+  pub inside : n ≤ length memo
+  pub below : (i : ℕ) → 0 < get_or memo i 0 → i < n
+
+-- it has results of terms that are there alone
+abbrev pub Results : List ℕ → Mark → Type 0
+Results memo m = Used memo m.terms
 
 pub record Clashes (I W J X : List ℕ) (old : Mark) (memo' : List ℕ) (K : Out Made Found) (new : Mark) : Type 0 where
   pub grown : Grown I W J X old new

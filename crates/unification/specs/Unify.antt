@@ -33,6 +33,18 @@ SameScratch x y = (y.map.ghost_name ≡ x.map.ghost_name) × (y.memo.ghost_name 
 abbrev pub SameCells : Tables → Tables → Type 0
 SameCells x y = SameScratch x y × (length y.memo.now ≡ length x.memo.now) × (length y.pairs.now ≡ length x.pairs.now)
 
+-- it holds what it held
+abbrev pub ScratchKept : Tables → Tables → Type 0
+ScratchKept x y = (y.map.now ≡ x.map.now) × (y.memo.now ≡ x.memo.now) × (y.pairs.now ≡ x.pairs.now) × (y.seen.now ≡ x.seen.now)
+
+-- the same but for the pairs
+abbrev pub KeptButPairs : Tables → Tables → Type 0
+KeptButPairs x y = (y.map.now ≡ x.map.now) × (y.memo.now ≡ x.memo.now) × (y.seen.now ≡ x.seen.now)
+
+-- the same but for the memo and the pairs
+abbrev pub KeptButMemoAndPairs : Tables → Tables → Type 0
+KeptButMemoAndPairs x y = (y.map.now ≡ x.map.now) × (y.seen.now ≡ x.seen.now)
+
 -- two terms whose variables are below the count: so many can be bound, and that is enough for every unifier
 pub record Unifiable (I W : List ℕ) (m : Mark) (count s t : ℕ) (theta map memo pairs seen : List ℕ) : Type 0 where
   pub good : Good I W m

@@ -5,10 +5,10 @@ ghost use Rattle.rules.specs.Limits.{VARIABLES};
 ghost use Rattle.rules.specs.Unify.{bind_or_clash, look};
 ghost use Rattle.terms.specs.Table.{tree};
 ghost use Rattle.unification.specs.Pairs.{Searchable, Comparable, Answered, piled};
-ghost use Rattle.unification.specs.Unify.{SameCells};
+ghost use Rattle.unification.specs.Unify.{SameCells, KeptButPairs};
 
 use crate::unify::Scratch;
-use rules::SYMBOLS;
+use terms::heads::{Head, head_of};
 use terms::store::Terms;
 use terms::variables::occurs;
 
@@ -46,16 +46,14 @@ pub fn compare<'a>(terms: &'a Terms<'_>, s: usize, t: usize, seen: &mut [u64]) -
         return Asks::Nothing;
     }
     let left = terms.node(s);
-    let head = left[0] as usize;
-    if SYMBOLS <= head {
-        return bind(terms, head - SYMBOLS, t, seen);
+    if let Head::Variable(x) = head_of(left[0]) {
+        return bind(terms, x, t, seen);
     }
     let right = terms.node(t);
-    let other = right[0] as usize;
-    if SYMBOLS <= other {
-        return bind(terms, other - SYMBOLS, s, seen);
+    if let Head::Variable(x) = head_of(right[0]) {
+        return bind(terms, x, s, seen);
     }
-    if head != other {
+    if left[0] != right[0] {
         return Asks::Clash;
     }
     if left.len() != right.len() {
@@ -74,7 +72,7 @@ impl Scratch<'_> {
         ensures same_cells { SameCells self.old self.new }
         ensures pairs { self.new.pairs.now ≡ piled left.now right.now self.old.pairs.now self.old.waiting (length left.now) }
         ensures waiting { self.new.waiting ≡ self.old.waiting + length left.now }
-        ensures unchanged { let x = self.old in let y = self.new in (y.map.now ≡ x.map.now) × (y.memo.now ≡ x.memo.now) × (y.seen.now ≡ x.seen.now) }
+        ensures unchanged { KeptButPairs self.old self.new }
     {
         for (word, other) in left.iter().zip(right) {
             let at = 2 * self.waiting;

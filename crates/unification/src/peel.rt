@@ -4,7 +4,7 @@ ghost use Rattle.std.specs.Prelude.{◌≡◌, suc, ◌<◌};
 ghost use Rattle.rules.specs.Unify.{look};
 ghost use Rattle.terms.specs.Table.{tree};
 ghost use Rattle.terms.specs.Lent.{SameTables};
-ghost use Rattle.unification.specs.Unify.{SameCells};
+ghost use Rattle.unification.specs.Unify.{SameCells, KeptButPairs, KeptButMemoAndPairs};
 ghost use Rattle.unification.specs.Peel.{Sideable, Sided, Lookable, Looked, Peelable, weighs, peels, Turned, PeeledAs};
 
 use crate::pairs::{Asks, compare};
@@ -14,7 +14,8 @@ use rules::PAIRS;
 use terms::replace::replace;
 use terms::store::{Store, Terms};
 
-// What comes of a pair, or of all that wait: all is done, but for the pairs that wait; no unifier exists; or a variable is bound to a term.
+// What comes of a pair, or of all that wait: all is done, but for the pairs that wait; no unifier exists; or a variable is bound to a term. Its two
+// fields are named here as in `Asks`: a struct for them would be one name more at each place that takes it apart.
 #[derive(Clone, Copy, Debug, PartialEq, Eq)]
 pub enum Step {
     Done,
@@ -45,7 +46,7 @@ fn onward(terms: &Terms<'_>, s: usize, t: usize, scratch: &mut Scratch<'_>) -> R
     ensures same_cells { SameCells scratch.old scratch.new }
     ensures looked { let m = terms.now in let x = scratch.old in let y = scratch.new in Looked m.index.now m.words.now m.mark x.pairs.now y.pairs.now x.waiting y.waiting
         (look (tree m.index.now m.words.now m.mark s) (tree m.index.now m.words.now m.mark t)) result }
-    ensures unchanged { let x = scratch.old in let y = scratch.new in (y.map.now ≡ x.map.now) × (y.memo.now ≡ x.memo.now) × (y.seen.now ≡ x.seen.now) }
+    ensures unchanged { KeptButPairs scratch.old scratch.new }
 {
     match compare(terms, s, t, scratch.seen) {
         Asks::Nothing => Ok(Step::Done),
@@ -69,7 +70,7 @@ fn take_pair(store: &mut Store<'_>, theta: &[u32], scratch: &mut Scratch<'_>) ->
     ensures same_cells { SameCells scratch.old scratch.new }
     ensures turned { let m = store.old in let n = store.new in let x = scratch.old in let y = scratch.new in Turned m.index.now m.words.now n.index.now n.words.now m.mark n.mark
         theta.now y.memo.now x.pairs.now y.pairs.now x.seen.now x.waiting y.waiting result }
-    ensures unchanged { let x = scratch.old in let y = scratch.new in (y.map.now ≡ x.map.now) × (y.seen.now ≡ x.seen.now) }
+    ensures unchanged { KeptButMemoAndPairs scratch.old scratch.new }
 {
     scratch.waiting -= 1;
     let at = 2 * scratch.waiting;
@@ -87,7 +88,7 @@ pub fn peel(store: &mut Store<'_>, theta: &[u32], scratch: &mut Scratch<'_>) -> 
     ensures peeled_as { let m = store.old in let n = store.new in let x = scratch.old in let y = scratch.new in
         PeeledAs m.index.now m.words.now n.index.now n.words.now m.mark n.mark y.memo.now y.pairs.now y.waiting
         (peels (suc (weighs m.index.now m.words.now m.mark theta.now x.pairs.now x.waiting)) m.index.now m.words.now m.mark theta.now x.pairs.now x.waiting) result }
-    ensures unchanged { let x = scratch.old in let y = scratch.new in (y.map.now ≡ x.map.now) × (y.seen.now ≡ x.seen.now) }
+    ensures unchanged { KeptButMemoAndPairs scratch.old scratch.new }
 {
     // No count: a pair that is taken can put others in its place.
     while scratch.waiting != 0 {

@@ -5,7 +5,7 @@ ghost use Rattle.terms.specs.Table.{tree};
 ghost use Rattle.terms.specs.Lent.{SameTables, made_of};
 ghost use Rattle.terms.specs.Subst.{replacement};
 ghost use Rattle.terms.specs.Theta.{bindings};
-ghost use Rattle.unification.specs.Unify.{SameCells};
+ghost use Rattle.unification.specs.Unify.{SameCells, ScratchKept};
 ghost use Rattle.unification.specs.Extend.{in_values, Changeable, ChangedAs, Extendable, Extended};
 
 use crate::unify::Scratch;
@@ -52,8 +52,8 @@ pub fn extend(
     ensures same_cells { SameCells scratch.old scratch.new }
     ensures extended { let s = store.old in let t = store.new in Extended s.index.now s.words.now t.index.now t.words.now s.mark t.mark theta.new x u
         (replace x (tree s.index.now s.words.now s.mark u) (bindings (made_of s) theta.old 0) (made_of s)) result }
-    ensures unchanged { let w = scratch.old in let y = scratch.new in
-        (y.map.now ≡ w.map.now) × (y.memo.now ≡ w.memo.now) × (y.pairs.now ≡ w.pairs.now) × (y.seen.now ≡ w.seen.now) × (y.waiting ≡ w.waiting) }
+    ensures scratch_kept { ScratchKept scratch.old scratch.new }
+    ensures waiting { scratch.new.waiting ≡ scratch.old.waiting }
 {
     let terms = store.mark.terms;
     let map = &mut *scratch.map;

@@ -1,5 +1,5 @@
 -- One case of `invert`: what the definition reads of its item, and what the cells say of it. Assumes nothing.
-use Rattle.std.specs.Prelude.{◌≡◌, refl, Bool, List, ℕ, suc, ◌-◌, ◌<◌, ◌≤◌, eqb, length, take, drop, Option, Some as some, None as nothing}
+use Rattle.std.specs.Prelude.{◌≡◌, refl, Bool, List, ℕ, suc, ◌+◌, ◌<◌, eqb, length, drop, Option, Some as some, None as nothing}
 use Rattle.std.proofs.Common.{sym, ◌∙◌, subst, arith, eq-eqb, ne_eqb}
 use Rattle.std.proofs.Math.Path.{ap}
 use Rattle.rules.specs.Out.{ok, refuse, then, ask, found}
@@ -14,9 +14,10 @@ use Rattle.rules.specs.Laws.Sexp.{rest_item, rest_none}
 use Rattle.sexp.specs.Encode.{encodes}
 use Rattle.sexp.specs.Items.{Holds, item_at, place}
 use Rattle.sexp.specs.Never.{never}
-use Rattle.sexp.specs.AtomText.{AtomText, text_of}
-use Rattle.sexp.specs.NthItem.{place_high, rest_holds}
-use Rattle.sexp.specs.WalkLaws.{ListIs}
+use Rattle.sexp.specs.AtomText.{AtomText, text_of, atom_part, atom_high}
+use Rattle.sexp.specs.WalkLaws.{AtomIs}
+use Rattle.sexp.specs.Each.{ListOf}
+use Rattle.referring.specs.Laws.Behind.{from_holds}
 use Rattle.sexp.specs.declared.items.Item.{Item}
 use Rattle.sexp.specs.declared.items.Item.TheVariants.{Atom, List as Part}
 use Rattle.reading.specs.Items.{FirstItem, index_in, vars_in, index_found}
@@ -115,31 +116,22 @@ module _ {text w : List ℕ} {ys : Sexps} (h : Holds text w ys) (t : count ys �
   pub inner_some : 0 < length w
   inner_some = first_some inner_first
 
-  module _ {at : ℕ} (k : ℕ) (l : k < 3) (a : (zs : Sexps) → w ≡ encodes zs → at ≡ place zs k) where
-    pub inner_rest : Holds text (take (length w - at) (drop at w)) (cons (item ys k) (rest ys (suc k)))
-    inner_rest = subst (λ (z : Sexps). Holds text (take (length w - at) (drop at w)) z) (rest_item ys k (omega arith)) (rest_holds h k a)
+  module _ {behind : List ℕ} (k : ℕ) (l : k < 3) (a : (zs : Sexps) → w ≡ encodes zs → behind ≡ drop (place zs k) w) where
+    pub inner_rest : Holds text behind (cons (item ys k) (rest ys (suc k)))
+    inner_rest = subst (λ (z : Sexps). Holds text behind z) (rest_item ys k (omega arith)) (from_holds h k a)
 
-    pub inner_high : at ≤ length w
-    inner_high = place_high h k a
-
-    pub inner_item : FirstItem text (take (length w - at) (drop at w))
+    pub inner_item : FirstItem text behind
     inner_item = record { x = item ys k; ys = rest ys (suc k); holds = inner_rest }
 
 -- The reader -----------------------------------------------------------------------------------------------------------------------------------
 
-module _ {goals text vars cells : List ℕ} {count' : ℕ} (g : VarsItem goals text vars count' cells) {it : Item} (e : it ≡ item_at cells 0) where
-  pub vars_atom : {p : ℕ} → it ≡ Atom p → (M : Made) → read_case g.S g.x M ≡ refuse 41 0 M
-  vars_atom f M = let a = first_atom g.holds e f in case_atom_lem g.S g.x M _ a.bytes a.is
+module _ {goals text vars cells : List ℕ} {count' : ℕ} (g : VarsItem goals text vars count' cells) where
+  pub vars_atom : (p : ℕ) × AtomIs text g.x p → (M : Made) → read_case g.S g.x M ≡ refuse 41 0 M
+  vars_atom a M = case_atom_lem g.S g.x M _ a.1.bytes a.1.is
 
-  module _ {a b : ℕ} (f : it ≡ Part a b) where
-    abbrev pub within : ListIs text cells g.x a b
-    within = first_list g.holds e f
-
-    abbrev pub inside : List ℕ
-    inside = take (b - a) (drop a cells)
-
+  module _ {inside : List ℕ} (within : ListOf text cells g.x inside) where
     module _ {n : ℕ} (c : (zs : Sexps) → inside ≡ encodes zs → n ≡ count zs) where
-      pub counted : n ≡ count within.items
+      counted : n ≡ count within.items
       counted = c within.items within.holds.cells
 
       pub vars_count : (n ≡ 3 → ⊥) → (M : Made) → read_case g.S g.x M ≡ refuse 41 0 M
@@ -159,16 +151,16 @@ module _ {goals text vars cells : List ℕ} {count' : ℕ} (g : VarsItem goals t
             abbrev pub name_text : AtomText text (item within.items 0) p
             name_text = text_of (first_atom (inner_first within.holds three) e2 k)
 
-            module _ {at : ℕ} (pl : (zs : Sexps) → inside ≡ encodes zs → at ≡ place zs 1) {r : Option ℕ}
-                (ix : (x : Sexp) (ys : Sexps) → Holds text (take (length inside - at) (drop at inside)) (cons x ys) → r ≡ index_in x) where
+            module _ {second : List ℕ} (pl : (zs : Sexps) → inside ≡ encodes zs → second ≡ drop (place zs 1) inside) {r : Option ℕ}
+                (ix : (x : Sexp) (ys : Sexps) → Holds text second (cons x ys) → r ≡ index_in x) where
               index_is : r ≡ index_in (item within.items 1)
               index_is = ix (item within.items 1) (rest within.items 2) (inner_rest within.holds three 1 (omega arith) pl)
 
               pub vars_no_index : r ≡ nothing → (M : Made) → read_case g.S g.x M ≡ refuse 41 0 M
               vars_no_index z M = case_no_index_lem g.S g.x M within.items within.is three p _ name_text.is (sym index_is ∙ z)
 
-              module _ {i : ℕ} (z : r ≡ some i) {at2 : ℕ} (pl2 : (zs : Sexps) → inside ≡ encodes zs → at2 ≡ place zs 2) where
-                abbrev pub vars_item : VarsItem goals text vars count' (take (length inside - at2) (drop at2 inside))
+              module _ {i : ℕ} (z : r ≡ some i) {third : List ℕ} (pl2 : (zs : Sexps) → inside ≡ encodes zs → third ≡ drop (place zs 2) inside) where
+                abbrev pub vars_item : VarsItem goals text vars count' third
                 vars_item = record {
                   S = g.S;
                   x = item within.items 2;
@@ -180,8 +172,9 @@ module _ {goals text vars cells : List ℕ} {count' : ℕ} (g : VarsItem goals t
                 pub vars_no_vars : vars_in g.S.vars (item within.items 2) ≡ nothing → (M : Made) → read_case g.S g.x M ≡ refuse 42 0 M
                 vars_no_vars v M = case_no_vars g.S g.x M within.items within.is three p _ name_text.is i (sym index_is ∙ z) v
 
-                pub vars_read : {out : List ℕ} {many : ℕ} → VarsRead g.S.vars (item within.items 2) out many → CaseIs g.S text g.x out p i many
-                vars_read v =
+                pub vars_read : {out : List ℕ} {many end : ℕ} → end ≡ p + length (letters (drop p text)) → VarsRead g.S.vars (item within.items 2) out many →
+                    CaseIs g.S text g.x out (record { from = p; end = end }) i many
+                vars_read {out} {many} {end} e v =
                     record {
                       c = record { name = letters (drop p text); fact = i; vars = v.vars };
                       read = λ M. case_read g.S g.x M within.items within.is three p _ name_text.is i (sym index_is ∙ z) v.vars v.are;
@@ -195,7 +188,10 @@ module _ {goals text vars cells : List ℕ} {count' : ℕ} (g : VarsItem goals t
                         vars = v.are;
                       };
                       inside = name_text.inside;
-                      bytes = refl;
+                      whole = refl;
+                      low = omega (arith, e);
+                      high = atom_high text p end name_text.inside e;
+                      bytes = sym (atom_part text p end name_text.inside e);
                       number = refl;
                       count = v.count;
                       cells_are = v.cells_are;
@@ -203,35 +199,6 @@ module _ {goals text vars cells : List ℕ} {count' : ℕ} (g : VarsItem goals t
 
 -- Its name -------------------------------------------------------------------------------------------------------------------------------------
 
-module _ {text cells : List ℕ} (g : CaseFirst text cells) {it : Item} (e : it ≡ item_at cells 0) where
-  pub named_atom : {A : Type 0} {p : ℕ} → it ≡ Atom p → A
-  named_atom f = let a = first_atom g.holds e f in not_both g.x g.case.inner _ a.bytes g.case.is a.is
-
-  module _ {a b : ℕ} (f : it ≡ Part a b) where
-    abbrev pub named_list : ListIs text cells g.x a b
-    named_list = first_list g.holds e f
-
-    same_inner : named_list.items ≡ g.case.inner
-    same_inner = list_items _ _ (sym named_list.is ∙ g.case.is)
-
-    named_three : count named_list.items ≡ 3
-    named_three = ap count same_inner ∙ g.case.three
-
-    pub named_some : 0 < length (take (b - a) (drop a cells))
-    named_some = inner_some named_list.holds named_three
-
-    module _ {it2 : Item} (e2 : it2 ≡ item_at (take (b - a) (drop a cells)) 0) where
-      pub named_never : {A : Type 0} {p q : ℕ} → it2 ≡ Part p q → A
-      named_never k =
-          let l = first_list (inner_first named_list.holds named_three) e2 k in
-          not_both (item named_list.items 0) l.items g.case.place g.c.name l.is (ap (λ (z : Sexps). item z 0) same_inner ∙ g.case.named)
-
-      module _ {p : ℕ} (k : it2 ≡ Atom p) where
-        named_text : AtomText text (item named_list.items 0) p
-        named_text = text_of (first_atom (inner_first named_list.holds named_three) e2 k)
-
-        pub named_inside : p < length text
-        named_inside = named_text.inside
-
-        pub named_bytes : letters (drop p text) ≡ g.c.name
-        named_bytes = atom_bytes _ _ _ _ (sym named_text.is ∙ ap (λ (z : Sexps). item z 0) same_inner ∙ g.case.named)
+module _ {text cells : List ℕ} (g : CaseFirst text cells) where
+  pub named_atom : {A : Type 0} → (p : ℕ) × AtomIs text g.x p → A
+  named_atom a = not_both g.x g.case.inner _ a.1.bytes g.case.is a.1.is

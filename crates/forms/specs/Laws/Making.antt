@@ -1,7 +1,7 @@
 -- Actions on the made trees as steps of a form: `making` goes from what a call says of the store to the state. And how far a form has come: it began
 -- with the answer K at the state S and the tables I W; now the tables are J X, the state is S with their trees, and K is what `rest` says.
 -- Assumes nothing.
-use Rattle.std.specs.Prelude.{◌≡◌, List, ℕ, suc, ◌-◌, ◌<◌, length, take, drop}
+use Rattle.std.specs.Prelude.{◌≡◌, List, ℕ, suc, ◌<◌, drop}
 use Rattle.std.proofs.Common.{sym, ◌∙◌, subst}
 use Rattle.std.proofs.Math.Path.{ap}
 use Rattle.rules.specs.Out.{Out, ok, refuse, then, Act}
@@ -16,7 +16,7 @@ use Rattle.rules.specs.Laws.Sexp.{rest_item}
 use Rattle.rules.specs.Laws.Store.{then_ok, then_refuse}
 use Rattle.sexp.specs.Encode.{encodes}
 use Rattle.sexp.specs.Items.{Holds, place}
-use Rattle.sexp.specs.NthItem.{rest_holds}
+use Rattle.referring.specs.Laws.Behind.{from_holds}
 use Rattle.terms.specs.declared.store.Mark.{Mark}
 use Rattle.terms.specs.Table.{made, Good}
 use Rattle.terms.specs.On.{Went, Stopped}
@@ -101,6 +101,6 @@ module _ {I W : List ℕ} {old : Mark} {S : State} {K : Out State (Unit {0})} {J
 -- The items of a form --------------------------------------------------------------------------------------------------------------
 
 -- from where `place` says, the cells begin with that item
-pub item_holds : {text cells : List ℕ} {xs : Sexps} (h : Holds text cells xs) (k : ℕ) {at : ℕ} → k < count xs →
-    ((ys : Sexps) → cells ≡ encodes ys → at ≡ place ys k) → Holds text (take (length cells - at) (drop at cells)) (cons (item xs k) (rest xs (suc k)))
-item_holds {text} {cells} {xs} h k {at} l a = subst (λ zs. Holds text (take (length cells - at) (drop at cells)) zs) (rest_item xs k l) (rest_holds h k a)
+pub item_holds : {text cells : List ℕ} {xs : Sexps} (h : Holds text cells xs) (k : ℕ) {behind : List ℕ} → k < count xs →
+    ((ys : Sexps) → cells ≡ encodes ys → behind ≡ drop (place ys k) cells) → Holds text behind (cons (item xs k) (rest xs (suc k)))
+item_holds {text} {cells} {xs} h k {behind} l a = subst (Holds text behind) (rest_item xs k l) (from_holds h k a)

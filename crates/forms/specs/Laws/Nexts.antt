@@ -14,7 +14,7 @@ use Rattle.state.specs.declared.sizes.Sizes.{Sizes}
 use Rattle.state.specs.Stands.{Texts, Board, Stands}
 use Rattle.forms.specs.Next.{OwnIndex}
 
--- what `is_next` is given
+-- what `next_index` is given
 abbrev pub stands_own : {X : Texts} {T : TheoryLists} {B : Board} {n : Sizes} {m : Mark} {S : State} → Stands X T B n m S → {cells : List ℕ} {xs : Sexps} →
     Holds X.text cells xs → 2 ≤ count xs → OwnIndex X.text cells n
 stands_own {S = S} h {xs = xs} o l = record { S = S; xs = xs; holds = o; many = l; facts = h.recorded.many }

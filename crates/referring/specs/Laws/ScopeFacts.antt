@@ -50,14 +50,12 @@ module _ {facts lists : List ℕ} {n : Sizes} {I W : List ℕ} {m : Mark} (g : R
     are : own ≡ numbers (made I W m) (fact_of g.S i).premises
     are = e ∙ row.premises
 
-    pub premises_ready : {seen set : List ℕ} → length seen ≡ TERMWORDS → length set ≡ VARIABLEWORDS → ReadableAll I W m own seen set
-    premises_ready p q =
+    pub premises_ready : ReadableAll I W m own
+    premises_ready =
         record {
           good = g.good;
           there = λ k h. subst (λ (b : ℕ). get_or own k 0 < b) (made_length I W m)
               (all_at own k 0 (subst (All (λ x. x < length (made I W m))) (sym are) row.numbered.below) h);
-          wide = p;
-          broad = q;
         }
 
     pub mention_done : {j : ℕ} {a seen b seen₁ seen₂ c : Set} → j ≡ cell 6 facts i 0 → Visited I W m j seen a seen₁ b

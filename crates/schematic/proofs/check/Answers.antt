@@ -5,8 +5,7 @@ use Rattle.schematic.proofs.check.Goals as goal
 
 pub returns-then-not-fits : goal.returns-then-not-fits
 returns-then-not-fits c =
-    rw c.number.ensures
-    (short c.args.theory.now c.args.goals.now c.args.proof.now
+    short c.args.theory.now c.args.goals.now c.args.proof.now
     (theory_lists c.args.sorts.now c.args.symbols.now c.args.inputs.now c.args.rules.now c.args.rulevars.now c.args.patterns.now)
     (working c.args.vars.now c.args.index.now c.args.words.now c.args.defs.now c.args.rows.now c.args.lists.now) c.args.missing.now c.args.facts.now
-    (c.fits.ensures.no c.if-not-fits.true))
+    (c.fits.ensures.no c.if-not-fits.true)

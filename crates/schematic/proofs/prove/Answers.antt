@@ -1,8 +1,8 @@
-use Rattle.std.specs.Prelude.{◌≡◌, Ok, Err}
+use Rattle.std.specs.Prelude.{◌≡◌, Ok}
 use Rattle.std.proofs.Common.{sym, ap, ◌∙◌, arith, rules}
 use Rattle.kernel.proofs.Handed.{handed}
 use Rattle.beginning.proofs.Turns.{boards_then, stores_then}
-use Rattle.schematic.proofs.Turning.{in_proof, ready, fitting, next, ran, stops, answered, scratch_then}
+use Rattle.schematic.proofs.Turning.{in_proof, ready, fitting, next, ran, left, stops, answered, scratch_then}
 use Rattle.schematic.proofs.prove.Goals as goal
 
 pub returns-in_err-next-clause-ran : goal.returns-in_err-next-clause-ran
@@ -10,7 +10,7 @@ returns-in_err-next-clause-ran c =
     let x = c.loop-next.invariant.0 in
     let r : c.map_err.result ≡ in_proof c.loop-next.forms c.next_form.result = search rules in
     rw (handed c.from_residual.result c.from_residual.ensures)
-    (ran x c.next_form.new.board c.next_form.new.store _
+    (left x c.next_form.new.board c.next_form.new.store
     (stops x c.next_form.new.board c.next_form.new.store _ (c.next_form.ensures.advanced (ready x)) (sym r ∙ c.in_err-next.was)))
 
 pub returns-in_default-clause-ran : goal.returns-in_default-clause-ran
@@ -18,10 +18,10 @@ returns-in_default-clause-ran c =
     let x = c.loop-next.invariant.0 in
     let r : c.map_err.result ≡ in_proof c.loop-next.forms c.next_form.result = search rules in
     let o = answered x c.next_form.new.board c.next_form.new.store _ (c.next_form.ensures.advanced (ready x)) (sym r ∙ c.in_ok-next.was ∙ ap Ok c.in_default.is) in
-    ran x c.next_form.new.board c.next_form.new.store _ o.0
+    ran x c.next_form.new.board c.next_form.new.store o.0
 
-pub add-requires : goal.add-requires
-add-requires c =
+pub add_assign-requires : goal.add_assign-requires
+add_assign-requires c =
     let x = c.loop-next.invariant.0 in
     let r : c.map_err.result ≡ in_proof c.loop-next.forms c.next_form.result = search rules in
     let e = answered x c.next_form.new.board c.next_form.new.store _ (c.next_form.ensures.advanced (ready x)) (sym r ∙ c.in_ok-next.was ∙ ap Ok c.in-Some.is) in
@@ -39,7 +39,7 @@ loop-next-preserved c =
     let x = c.loop-next.invariant.0 in
     let r : c.map_err.result ≡ in_proof c.loop-next.forms c.next_form.result = search rules in
     let e = answered x c.next_form.new.board c.next_form.new.store _ (c.next_form.ensures.advanced (ready x)) (sym r ∙ c.in_ok-next.was ∙ ap Ok c.in-Some.is) in (
-      next x c.next_form.new.board c.next_form.new.store e c.add.ensures,
+      next x c.next_form.new.board c.next_form.new.store e c.add_assign.ensures.after,
       c.next_form.ensures.idle_again,
       boards_then c.args.board.now c.loop-next.board c.next_form.new.board c.loop-next.invariant.2 c.next_form.ensures.same_tables.0,
       stores_then c.args.store.now c.loop-next.store c.next_form.new.store c.loop-next.invariant.3 c.next_form.ensures.same_tables.1,

@@ -12,7 +12,7 @@ pub loop-i-init : goal.loop-i-init
 loop-i-init c = storing.begin
 
 pub loop-i-preserved : goal.loop-i-preserved
-loop-i-preserved c = storing.next absent c.requires c.loop-i.invariant (search rules) c.put_row.ensures c.put_foot.ensures
+loop-i-preserved c = storing.next absent c.requires c.loop-i.invariant (search rules) c.put_fact.ensures.row c.put_fact.ensures.foot
 
 pub returns-clause-rows : goal.returns-clause-rows
 returns-clause-rows c = storing.rows_done c.loop-i.invariant (search rules)

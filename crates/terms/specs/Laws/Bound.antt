@@ -1,6 +1,6 @@
 -- The cells of a rule's variables: what they bind, one that gets a tree, that trees made later do not change them; and that a pattern whose
 -- variables are all bound is built as its substitution is. Assumes nothing.
-use Rattle.std.specs.Prelude.{◌≡◌, Bool, List, length, set, replicate, Some as some, None as nothing}
+use Rattle.std.specs.Prelude.{◌≡◌, Bool, List, length, set, replicate, Option, Some as some, None as nothing}
 use Rattle.std.proofs.Math.Path.{refl, sym, ap}
 use Rattle.std.proofs.Common.{◌∙◌, length-set, get_or-set_other, eq-eqb, ne_eqb}
 use Rattle.std.proofs.Math.Bool.{true, false}
@@ -8,7 +8,7 @@ use Prim.Native.Nat.{ℕ, zero, suc, ◌+◌, ◌≤◌, ◌<◌}
 use native.Mathlib.Omega.{arith}
 use Rattle.std.proofs.Math.Decide.{ℕ_discrete}
 use Rattle.std.proofs.Math.ListN.{get_or}
-use Rattle.std.proofs.lemmas.List.{length-replicate}
+use Rattle.std.proofs.lemmas.List.{length-replicate, length-map, get_or-map, map-set}
 use Rattle.std.proofs.Math.Seq.{get_or-set_same}
 use Rattle.rules.specs.Limits.{RULEVARS}
 use Rattle.rules.specs.Tree.{Tree, Trees, var, variables, variables_of}
@@ -18,10 +18,23 @@ use Rattle.rules.specs.Laws.Store.{Apart, number_of_lem}
 use Rattle.rules.specs.Laws.Build.{build_substitutes, builds_substitutes}
 use Rattle.terms.specs.declared.store.Mark.{Mark}
 use Rattle.terms.specs.Table.{made, Good, Grown}
-use Rattle.terms.specs.Patterns.{tree_in, bound_of, Cells}
+use Rattle.terms.specs.Sets.{counted_from_1}
+use Rattle.terms.specs.Patterns.{cells_of, tree_in, bound_of, Cells}
 use Rattle.terms.specs.Laws.Zeros.{get_d_zeros}
 use Rattle.terms.specs.Laws.Growth.{made_length, grown_tree}
 use Rattle.terms.specs.Laws.Numbers.{made_closed}
+
+-- Cells of what is bound ---------------------------------------------------------------------------------------------------------------
+
+module _ (O : List (Option ℕ)) where
+  pub cells_long : length (cells_of O) ≡ length O
+  cells_long = length-map O counted_from_1
+
+  pub cell_of : (v : ℕ) (d : Option ℕ) → v < length O → get_or (cells_of O) v 0 ≡ counted_from_1 (get_or O v d)
+  cell_of v d h = get_or-map counted_from_1 O v d 0 h
+
+  pub cells_of_set : (v t : ℕ) → cells_of (set O v (some t)) ≡ set (cells_of O) v (t + 1)
+  cells_of_set v t = let e : suc t ≡ t + 1 = omega arith in map-set counted_from_1 O v (some t) ∙ ap (set (cells_of O) v) e
 
 -- One cell -----------------------------------------------------------------------------------------------------------------------------
 

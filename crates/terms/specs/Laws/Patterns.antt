@@ -36,6 +36,7 @@ mutual
             (sym (drop-drop (size t) at P) ∙ ap (drop (size t)) d ∙ drop_at (prefix t) (prefixes ts ++ rest) (size t) (prefix_length t)),
       )
 
+-- it stands here again, since this crate does not stand on `meaning`, whose `size_pos` it is
 pub size_some : (p : Tree) → 0 < size p
 unfolding size
 size_some (var v) = omega arith

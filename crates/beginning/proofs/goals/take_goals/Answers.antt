@@ -1,4 +1,4 @@
-use Rattle.std.specs.Prelude.{◌≡◌, Ok, Err}
+use Rattle.std.specs.Prelude.{◌≡◌, Ok}
 use Rattle.std.proofs.Common.{sym, ap, ◌∙◌, rules}
 use Rattle.kernel.proofs.Handed.{handed}
 use Rattle.beginning.proofs.Turns.{behind_in, boards_then, stores_then, turn_first, turn_no_goals, turn_ends, turn_fails, form_read, turn_takes, turn_refused, turn_on}

@@ -1,12 +1,13 @@
+use Rattle.std.proofs.lemmas.Result.{err_from_is_err_and}
 use Rattle.rules.specs.Text.{short, plain}
-use Rattle.beginning.proofs.Asks.{left_long, left_odd, none_left}
+use Rattle.beginning.proofs.Asks.{left_long, asked}
 use Rattle.beginning.proofs.texts.ask.Goals as goal
 
-pub returns-in-Some : goal.returns-in-Some
-returns-in-Some c = left_long _ (c.in-Some.ensures short (λ x r h. h)) c.left.ensures
-
-pub returns-in-Some-first_failing : goal.returns-in-Some-first_failing
-returns-in-Some-first_failing c = left_odd (c.in_default.ensures short (λ x r h. h)) _ (c.in-Some-first_failing.ensures plain (λ x r h. h)) c.left-in-Some-first_failing.ensures
+pub returns-in_err-each : goal.returns-in_err-each
+returns-in_err-each c =
+    let p = err_from_is_err_and c.from_residual.result c.from_residual.ensures.1 in
+    let h = c.in_err-each.ensures short (λ x r h. h) in
+    rw (p.1, p.2) (left_long _ h.0 h.1)
 
 pub returns : goal.returns
-returns c = none_left (c.in_default.ensures short (λ x r h. h)) (c.in_default-first_failing.ensures plain (λ x r h. h))
+returns c = asked _ _ _ (c.in_ok-each.ensures short (λ x r h. h)) _ (c.each-2.ensures plain (λ x r h. h))

@@ -1,34 +1,20 @@
-use Rattle.std.proofs.Common.{ap, ◌∙◌, arith}
+use Rattle.std.proofs.Common.{rules, ◌≡◌, false}
+use Rattle.std.specs.Option.{MatchOption}
 use Rattle.rules.specs.Text.{same}
-use Rattle.reading.specs.Laws.Walks.{first_some}
-use Rattle.casework.specs.Laws.CaseItems.{named_atom, named_list}
-use Rattle.casework.proofs.Finding.{head_is, head_never}
+use Rattle.sexp.specs.Each.{first_atom, first_list}
+use Rattle.casework.specs.Laws.CaseItems.{named_atom}
+use Rattle.casework.proofs.Finding.{named_same}
 use Rattle.casework.proofs.cases.is_named.Goals as goal
 
-pub item_at-requires : goal.item_at-requires
-item_at-requires c = first_some c.requires.holds
-
 pub returns-in_default : goal.returns-in_default
-returns-in_default c = λ g. named_atom g c.item_at.ensures c.in_default.is
-
-pub offset_bounds-cells-a : goal.offset_bounds-cells-a
-offset_bounds-cells-a c = omega (arith, (named_list c.requires c.item_at.ensures c.in-List.is).low, (named_list c.requires c.item_at.ensures c.in-List.is).high, c.well_formed.1.0)
-
-pub slice_bounds-head-count : goal.slice_bounds-head-count
-slice_bounds-head-count c = (named_list c.requires c.item_at.ensures c.in-List.is).low
-
-pub slice_bounds-head-start : goal.slice_bounds-head-start
-slice_bounds-head-start c = (named_list c.requires c.item_at.ensures c.in-List.is).low
-
-pub slice_bounds-head-end : goal.slice_bounds-head-end
-slice_bounds-head-end c = (named_list c.requires c.item_at.ensures c.in-List.is).high
+returns-in_default c = λ g. named_atom g (first_atom g.holds c.in_default.ensures)
 
 pub head-requires : goal.head-requires
-head-requires c = let l = named_list c.requires c.item_at.ensures c.in-List.is in (l.items, l.holds)
-
-pub returns-in_default-head : goal.returns-in_default-head
-returns-in_default-head c = λ g. let l = named_list g c.item_at.ensures c.in-List.is in head_never g l ((rw c.in_default-head.is at c.head.ensures) l.items l.holds)
+head-requires c = let l = first_list c.requires.holds c.in-Some.ensures in (l.items, l.holds)
 
 pub returns : goal.returns
-returns c = λ g. let l = named_list g c.item_at.ensures c.in-List.is in
-    c.same.ensures ∙ ap (λ bs. same bs c.args.name.now) (head_is g l ((rw c.in-Some.is at c.head.ensures) l.items l.holds))
+returns c = λ g.
+    let l = first_list g.holds c.in-Some.ensures in
+    let b = c.is_some_and.result in
+    let k : MatchOption c.head.result (b ≡ false) (λ own. b ≡ same own.now c.args.name.now) = search rules in
+    named_same g l _ c.head.result (c.head.ensures l.items l.holds) k

@@ -1,119 +1,66 @@
-use mathlib.Core.Path.{refl}
+use mathlib.Core.Path.{refl, ap, ◌∙◌}
 use native.Mathlib.Omega.{arith}
+use Rattle.std.specs.Prelude.{Err}
 use Rattle.sexp.specs.NthItem.{has_items}
-use Rattle.reading.specs.Laws.Walks.{first_some}
-use Rattle.casework.specs.Laws.CaseItems.{vars_atom, within, vars_count, three, vars_unnamed, vars_no_index, vars_item, vars_no_vars, vars_read, inner_some, inner_high, inner_item}
-use Rattle.sexp.specs.WalkLaws.{part_shorter}
+use Rattle.kernel.proofs.Handed.{handed}
+use Rattle.reading.proofs.Missing.{there, absent, question_is}
+use Rattle.casework.specs.Laws.CaseItems.{vars_atom, vars_count, three, vars_unnamed, name_text, vars_no_index, vars_item, vars_no_vars, vars_read, inner_some, inner_item}
+use Rattle.casework.proofs.Reading.{inner_is, inner_none}
 use Rattle.casework.proofs.cases.read_case.Goals as goal
 
-pub item_at-requires : goal.item_at-requires
-item_at-requires c = first_some c.requires.holds
-
-pub returns-in_default : goal.returns-in_default
-returns-in_default c = λ g. (vars_atom g c.item_at.ensures c.in_default.is, refl)
-
-pub offset_bounds-cells-a : goal.offset_bounds-cells-a
-offset_bounds-cells-a c = omega (
-  arith,
-  (within c.requires c.item_at.ensures c.in-List.is).low,
-  (within c.requires c.item_at.ensures c.in-List.is).high,
-  c.well_formed.1.0,
-)
-
-pub slice_bounds-inner-count : goal.slice_bounds-inner-count
-slice_bounds-inner-count c = (within c.requires c.item_at.ensures c.in-List.is).low
-
-pub slice_bounds-inner-start : goal.slice_bounds-inner-start
-slice_bounds-inner-start c = (within c.requires c.item_at.ensures c.in-List.is).low
-
-pub slice_bounds-inner-end : goal.slice_bounds-inner-end
-slice_bounds-inner-end c = (within c.requires c.item_at.ensures c.in-List.is).high
+pub returns-in_err-inner : goal.returns-in_err-inner
+returns-in_err-inner c = λ g.
+    rw (handed c.from_residual.result c.from_residual.ensures ∙ ap Err (question_is _ _ c.ok_or.ensures.ok_part c.ok_or.ensures.value c.in_err-inner.was))
+    (vars_atom g (inner_none g _ c.ok_or.ensures.ok_part c.in_err-inner.was c.list.ensures), refl)
 
 pub count-requires : goal.count-requires
-count-requires c = has_items (within c.requires c.item_at.ensures c.in-List.is).holds
+count-requires c = has_items (inner_is c.requires _ c.ok_or.ensures.ok_part c.in_ok-inner.was c.list.ensures).holds
 
 pub returns-then-count-ne3 : goal.returns-then-count-ne3
-returns-then-count-ne3 c = λ g. (vars_count g c.item_at.ensures c.in-List.is c.count.ensures c.if-count-ne3.true, refl)
+returns-then-count-ne3 c = λ g. (vars_count g (inner_is g _ c.ok_or.ensures.ok_part c.in_ok-inner.was c.list.ensures) c.count.ensures c.if-count-ne3.true, refl)
 
-pub item_at-requires-2 : goal.item_at-requires-2
-item_at-requires-2 c = inner_some (within c.requires c.item_at.ensures c.in-List.is).holds
-    (three c.requires c.item_at.ensures c.in-List.is c.count.ensures c.if-count-ne3.false)
+pub item_at-requires : goal.item_at-requires
+item_at-requires c = let i = (inner_is c.requires _ c.ok_or.ensures.ok_part c.in_ok-inner.was c.list.ensures) in inner_some i.holds (three c.requires i c.count.ensures c.if-count-ne3.false)
 
-pub returns-in_default-item_at : goal.returns-in_default-item_at
-returns-in_default-item_at c = λ g.
-    (vars_unnamed g c.item_at.ensures c.in-List.is c.count.ensures c.if-count-ne3.false c.item_at-2.ensures c.in_default-item_at.is, refl)
-
-pub place-second-requires : goal.place-second-requires
-place-second-requires c = has_items (within c.requires c.item_at.ensures c.in-List.is).holds
-
-pub offset_bounds-inner-second : goal.offset_bounds-inner-second
-offset_bounds-inner-second c = omega (
-  arith,
-  inner_high (within c.requires c.item_at.ensures c.in-List.is).holds
-      (three c.requires c.item_at.ensures c.in-List.is c.count.ensures c.if-count-ne3.false) 1 (omega arith) c.place-second.ensures,
-  part_shorter (within c.requires c.item_at.ensures c.in-List.is),
-  c.well_formed.1.0,
-)
-
-pub slice_bounds-index-count : goal.slice_bounds-index-count
-slice_bounds-index-count c = inner_high (within c.requires c.item_at.ensures c.in-List.is).holds
-    (three c.requires c.item_at.ensures c.in-List.is c.count.ensures c.if-count-ne3.false) 1 (omega arith) c.place-second.ensures
-
-pub slice_bounds-index-start : goal.slice_bounds-index-start
-slice_bounds-index-start c = inner_high (within c.requires c.item_at.ensures c.in-List.is).holds
-    (three c.requires c.item_at.ensures c.in-List.is c.count.ensures c.if-count-ne3.false) 1 (omega arith) c.place-second.ensures
+pub returns-in_default : goal.returns-in_default
+returns-in_default c = λ g. (vars_unnamed g (inner_is g _ c.ok_or.ensures.ok_part c.in_ok-inner.was c.list.ensures) c.count.ensures c.if-count-ne3.false c.item_at.ensures c.in_default.is, refl)
 
 pub index-requires : goal.index-requires
-index-requires c = inner_item (within c.requires c.item_at.ensures c.in-List.is).holds
-    (three c.requires c.item_at.ensures c.in-List.is c.count.ensures c.if-count-ne3.false) 1 (omega arith) c.place-second.ensures
+index-requires c = let i = (inner_is c.requires _ c.ok_or.ensures.ok_part c.in_ok-inner.was c.list.ensures) in inner_item i.holds (three c.requires i c.count.ensures c.if-count-ne3.false) 1 (omega arith) c.from.ensures
 
-pub returns-in_default-index_in : goal.returns-in_default-index_in
-returns-in_default-index_in c = λ g. (
-  vars_no_index g c.item_at.ensures c.in-List.is c.count.ensures c.if-count-ne3.false c.item_at-2.ensures c.in-Atom.is
-      c.place-second.ensures c.index.ensures c.in_default-index_in.is,
-  refl,
-)
-
-pub place-third-requires : goal.place-third-requires
-place-third-requires c = has_items (within c.requires c.item_at.ensures c.in-List.is).holds
-
-pub offset_bounds-inner-third : goal.offset_bounds-inner-third
-offset_bounds-inner-third c = omega (
-  arith,
-  inner_high (within c.requires c.item_at.ensures c.in-List.is).holds
-      (three c.requires c.item_at.ensures c.in-List.is c.count.ensures c.if-count-ne3.false) 2 (omega arith) c.place-third.ensures,
-  part_shorter (within c.requires c.item_at.ensures c.in-List.is),
-  c.well_formed.1.0,
-)
-
-pub slice_bounds-vars_list-count : goal.slice_bounds-vars_list-count
-slice_bounds-vars_list-count c = inner_high (within c.requires c.item_at.ensures c.in-List.is).holds
-    (three c.requires c.item_at.ensures c.in-List.is c.count.ensures c.if-count-ne3.false) 2 (omega arith) c.place-third.ensures
-
-pub slice_bounds-vars_list-start : goal.slice_bounds-vars_list-start
-slice_bounds-vars_list-start c = inner_high (within c.requires c.item_at.ensures c.in-List.is).holds
-    (three c.requires c.item_at.ensures c.in-List.is c.count.ensures c.if-count-ne3.false) 2 (omega arith) c.place-third.ensures
-
-pub vars_list-requires : goal.vars_list-requires
-vars_list-requires c = (
-  vars_item c.requires c.item_at.ensures c.in-List.is c.count.ensures c.if-count-ne3.false c.item_at-2.ensures c.in-Atom.is c.place-second.ensures
-      c.index.ensures c.in-Some.is c.place-third.ensures,
-  refl,
-)
-
-pub returns-in_default-vars_list : goal.returns-in_default-vars_list
-returns-in_default-vars_list c = λ g.
-    let i = vars_item g c.item_at.ensures c.in-List.is c.count.ensures c.if-count-ne3.false c.item_at-2.ensures c.in-Atom.is c.place-second.ensures c.index.ensures c.in-Some.is
-    c.place-third.ensures in
-    let v = c.in_default-vars_list.ensures i in (
-      vars_no_vars g c.item_at.ensures c.in-List.is c.count.ensures c.if-count-ne3.false c.item_at-2.ensures c.in-Atom.is c.place-second.ensures c.index.ensures c.in-Some.is
-          c.place-third.ensures v.0,
+pub returns-in_err-fact : goal.returns-in_err-fact
+returns-in_err-fact c = λ g.
+    rw (handed c.from_residual-in_err-fact.result c.from_residual-in_err-fact.ensures ∙ ap Err (question_is _ _ c.ok_or-2.ensures.ok_part c.ok_or-2.ensures.value c.in_err-fact.was)) (
+      vars_no_index g (inner_is g _ c.ok_or.ensures.ok_part c.in_ok-inner.was c.list.ensures) c.count.ensures c.if-count-ne3.false c.item_at.ensures c.in-Atom.is
+          c.from.ensures c.index.ensures (absent _ _ c.ok_or-2.ensures.ok_part c.in_err-fact.was),
       refl,
     )
 
+pub vars_list-listed-requires : goal.vars_list-listed-requires
+vars_list-listed-requires c = (
+  vars_item c.requires (inner_is c.requires _ c.ok_or.ensures.ok_part c.in_ok-inner.was c.list.ensures) c.count.ensures c.if-count-ne3.false c.item_at.ensures c.in-Atom.is
+      c.from.ensures c.index.ensures (there _ _ c.ok_or-2.ensures.ok_part c.in_ok-fact.was) c.from-2.ensures,
+  refl,
+)
+
+pub returns-in_err-variables : goal.returns-in_err-variables
+returns-in_err-variables c = λ g.
+    let i = (inner_is g _ c.ok_or.ensures.ok_part c.in_ok-inner.was c.list.ensures) in
+    let f = there _ _ c.ok_or-2.ensures.ok_part c.in_ok-fact.was in
+    let v = (rw (absent _ _ c.ok_or-3.ensures.ok_part c.in_err-variables.was) at c.vars_list-listed.ensures)
+    (vars_item g i c.count.ensures c.if-count-ne3.false c.item_at.ensures c.in-Atom.is c.from.ensures c.index.ensures f c.from-2.ensures) in
+    rw (handed c.from_residual-in_err-variables.result c.from_residual-in_err-variables.ensures ∙ ap Err (question_is _ _ c.ok_or-3.ensures.ok_part c.ok_or-3.ensures.value c.in_err-variables.was)) (
+      vars_no_vars g i c.count.ensures c.if-count-ne3.false c.item_at.ensures c.in-Atom.is c.from.ensures c.index.ensures f c.from-2.ensures v.0,
+      refl,
+    )
+
+pub atom_end-end-requires : goal.atom_end-end-requires
+atom_end-end-requires c = omega (arith, (name_text c.requires (inner_is c.requires _ c.ok_or.ensures.ok_part c.in_ok-inner.was c.list.ensures) c.count.ensures c.if-count-ne3.false c.item_at.ensures c.in-Atom.is).inside)
+
 pub returns : goal.returns
 returns c = λ g.
-    let i = vars_item g c.item_at.ensures c.in-List.is c.count.ensures c.if-count-ne3.false c.item_at-2.ensures c.in-Atom.is c.place-second.ensures c.index.ensures c.in-Some.is
-    c.place-third.ensures in
-    vars_read g c.item_at.ensures c.in-List.is c.count.ensures c.if-count-ne3.false c.item_at-2.ensures c.in-Atom.is c.place-second.ensures c.index.ensures c.in-Some.is
-    c.place-third.ensures (c.in-Some-vars_list.ensures i)
+    let i = (inner_is g _ c.ok_or.ensures.ok_part c.in_ok-inner.was c.list.ensures) in
+    let f = there _ _ c.ok_or-2.ensures.ok_part c.in_ok-fact.was in
+    let v = (rw (there _ _ c.ok_or-3.ensures.ok_part c.in_ok-variables.was) at c.vars_list-listed.ensures)
+    (vars_item g i c.count.ensures c.if-count-ne3.false c.item_at.ensures c.in-Atom.is c.from.ensures c.index.ensures f c.from-2.ensures) in
+    vars_read g i c.count.ensures c.if-count-ne3.false c.item_at.ensures c.in-Atom.is c.from.ensures c.index.ensures f c.from-2.ensures c.atom_end-end.ensures v

@@ -1,6 +1,5 @@
-use Rattle.std.proofs.Common.{refl, ap, ◌∙◌, arith}
+use Rattle.std.proofs.Common.{refl, ap, ◌∙◌}
 use Rattle.kernel.proofs.Handed.{handed}
-use Rattle.sexp.specs.AtomText.{atom_high}
 use Rattle.sexp.specs.Each.{here, over}
 use Rattle.casework.proofs.Finding.{casing_start, casing_over, casing_first, casing_no}
 use Rattle.casework.proofs.Reading.{front_part, item_now, named_twice, named_new}
@@ -21,12 +20,6 @@ returns-in_err-case c = λ g.
     let e = (rw h.is at c.in_err-case.ensures) (item_now g (c.loop-item.invariant.casing g) h.inside) in
     rw (handed c.from_residual.result c.from_residual.ensures) (casing_no (c.loop-item.invariant.casing g) h.inside _ _ e.0, e.1)
 
-pub atom_end-end-requires : goal.atom_end-end-requires
-atom_end-end-requires c =
-    let h = here c.loop-item.invariant.cells c.in-Some.ensures.steps in
-    let r = (rw h.is at c.in_ok-case.ensures) (item_now c.requires.0 (c.loop-item.invariant.casing c.requires.0) h.inside) in
-    omega (arith, r.inside)
-
 pub is_taken-requires : goal.is_taken-requires
 is_taken-requires c =
     let h = here c.loop-item.invariant.cells c.in-Some.ensures.steps in
@@ -34,8 +27,8 @@ is_taken-requires c =
     let r = (rw h.is at c.in_ok-case.ensures) (item_now c.requires.0 w h.inside) in
     let s = ap (λ b. b.now) c.loop-item.invariant.text in (
       casing_first w c.requires.0.holds s (front_part _ _ _ h.is h.inside),
-      omega (arith, c.atom_end-end.ensures),
-      rw s (atom_high _ _ _ r.inside c.atom_end-end.ensures),
+      r.low,
+      rw s r.high,
     )
 
 pub returns-then-is_taken : goal.returns-then-is_taken
@@ -44,7 +37,7 @@ returns-then-is_taken c = λ g.
     let w = c.loop-item.invariant.casing g in
     let r = (rw h.is at c.in_ok-case.ensures) (item_now g w h.inside) in
     let s = ap (λ b. b.now) c.loop-item.invariant.text in
-    (named_twice w g.holds s h.inside r c.atom_end-end.ensures (front_part _ _ _ h.is h.inside) c.is_taken.ensures.taken c.if-is_taken.true, refl)
+    (named_twice w g.holds s h.inside r (front_part _ _ _ h.is h.inside) c.is_taken.ensures.taken c.if-is_taken.true, refl)
 
 pub loop-item-preserved : goal.loop-item-preserved
 loop-item-preserved c =
@@ -56,7 +49,7 @@ loop-item-preserved c =
           let w = c.loop-item.invariant.casing g in
           let r = (rw h.is at c.in_ok-case.ensures) (item_now g w h.inside) in
           let s = ap (λ b. b.now) c.loop-item.invariant.text in
-          named_new w g.holds s h.inside r c.atom_end-end.ensures (front_part _ _ _ h.is h.inside) c.is_taken.ensures.taken c.if-is_taken.false h.behind;
+          named_new w g.holds s h.inside r (front_part _ _ _ h.is h.inside) c.is_taken.ensures.taken c.if-is_taken.false h.behind;
     }
 
 pub returns : goal.returns

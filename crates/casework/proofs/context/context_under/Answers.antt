@@ -2,7 +2,7 @@ use mathlib.Core.Path.{sym, ap, ◌∙◌}
 use native.Mathlib.Omega.{arith}
 use lib.ListN.{length}
 use Rattle.referring.specs.Laws.Fronts.{front_room, front_count, back_room, back_count, front_cleared}
-use Rattle.casework.specs.Context.{IDS}
+use Rattle.referring.specs.Ids.{IDS}
 use Rattle.casework.proofs.Under.{premises_few}
 use Rattle.casework.proofs.context.context_under.Goals as goal
 

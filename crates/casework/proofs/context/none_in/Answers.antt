@@ -1,13 +1,17 @@
-use mathlib.Core.Path.{sym, ◌∙◌}
-use native.Mathlib.Omega.{arith}
-use Rattle.casework.specs.Laws.Loops.{all_yes, all_no, all_over, not_so, not_not}
+use Rattle.std.proofs.Common.{◌∙◌, sym, rules, tests}
+use Rattle.std.specs.Prelude.{not}
+use Rattle.std.proofs.lemmas.Iterator.{YieldsList-from_slice}
+use Rattle.std.proofs.lemmas.Iterator.Search.{all_from_yields_List}
+use Rattle.terms.specs.Sets.{holds}
+use Rattle.cells.specs.Chains.{serves_from_slice, all_elements}
 use Rattle.casework.proofs.context.none_in.Goals as goal
 
-pub returns-then-has : goal.returns-then-has
-returns-then-has c = sym (c.loop-v.invariant.1 ∙ all_no _ _ _ c.loop-v-test.true (not_so c.has.ensures c.if-has.true))
-
-pub loop-v-preserved : goal.loop-v-preserved
-loop-v-preserved c = (omega arith, c.loop-v.invariant.1 ∙ all_yes _ _ _ c.loop-v-test.true (not_not c.has.ensures c.if-has.false))
+pub all-requires-clause-callable : goal.all-requires-clause-callable
+all-requires-clause-callable c = serves_from_slice (λ x q r. search (rules, tests))
+    (λ x k l e a b d f g h i j. rw (sym e, c.iter.ensures.rest) (c.requires k (rw c.iter.ensures.rest at l)))
 
 pub returns : goal.returns
-returns c = sym (c.loop-v.invariant.1 ∙ all_over _ _ _ c.loop-v-test.false)
+returns c =
+    all_from_yields_List (λ v. not (holds c.args.set.now v)) _ _ _ c.all.ensures.ran (YieldsList-from_slice c.args.variables.now c.iter.ensures.rest)
+    (λ x b q k. search (rules, tests))
+    ∙ all_elements _ c.args.variables.now

@@ -1,5 +1,6 @@
 use mathlib.Core.Path.{◌≡◌}
 use Rattle.terms.specs.Lent.{SameTables}
+use Rattle.terms.specs.Patterns.{cells_of}
 use Rattle.terms.specs.Sets.{counted_from_1}
 use Rattle.reading.specs.Reader.{names_of}
 use Rattle.derivation.specs.ItemsOf.{tables_of}
@@ -14,5 +15,5 @@ invariant-loop-item l =
       cells : l.item-iterator.cells.now ≡ l.cells;
       tables : SameTables s t;
       items : Itemed (names_of l.reader) (tables_of l.reader l.rule) l.reader.n s.index.now s.words.now s.mark l.rule.number l.cells
-          t.index.now t.words.now t.mark l.said.bound (counted_from_1 l.said.stated) l.item-iterator.at;
+          t.index.now t.words.now t.mark (cells_of l.said.bound) (counted_from_1 l.said.stated) l.item-iterator.at;
     }

@@ -1,6 +1,6 @@
 use Rattle.std.proofs.Common.{arith}
 use Rattle.rules.specs.Limits.{PATTERNS}
-use Rattle.induction.specs.Inducing.{IDS}
+use Rattle.referring.specs.Ids.{IDS}
 use Rattle.referring.specs.Laws.Fronts.{front_zero, front_same}
 use Rattle.entering.proofs.derive.find.Goals as goal
 

@@ -1,12 +1,11 @@
 use mathlib.Core.List.{[]}
-use mathlib.Core.Path.{refl, sym, ◌∙◌}
+use mathlib.Core.Path.{refl}
 use native.Mathlib.Omega.{arith}
 use Rattle.kernel.proofs.Handed.{handed}
 use Rattle.rules.specs.Limits.{ENTRIES}
 use Rattle.forms.proofs.GoalReads.{place_given}
-use Rattle.forms.proofs.GoalLists.{form_given, with_stop, with_small, with_halts, with_added}
-use Rattle.forms.proofs.Erring.{err_of, ok_of}
-use Rattle.forms.proofs.Tails.{tail_zero, tail_again, tailed_same}
+use Rattle.forms.proofs.GoalLists.{form_given, with_stop, with_small, with_either}
+use Rattle.forms.proofs.Tails.{tail_zero, tailed_same}
 use Rattle.forms.proofs.goals.add_goal_with.Goals as goal
 
 pub read_stated-requires-clause-reads_form : goal.read_stated-requires-clause-reads_form
@@ -23,20 +22,7 @@ returns-in_err-stated-clause-aimed_as c = λ g. rw (handed c.from_residual.resul
 pub place_goal-placed-requires : goal.place_goal-placed-requires
 place_goal-placed-requires c = (place_given c.requires.adds_goal (omega arith) [], with_small c.requires.adds_goal c.in_ok-stated.ensures.stated_as)
 
-pub returns-else-is_err-clause-aimed_as : goal.returns-else-is_err-clause-aimed_as
-returns-else-is_err-clause-aimed_as c = λ g.
-    let p = ok_of c.place_goal-placed.result (sym c.is_err.ensures.value ∙ c.if-is_err.false) in
-    rw p.1 (with_added g c.in_ok-stated.ensures.stated_as (rw p.1 at c.place_goal-placed.ensures.placed_as) c.args.board.now.lists.now
-    c.requires.lists_len.0 c.requires.lists_len.1 c.read_stated.auto.out c.place_goal-placed.ensures.only.3)
-
-pub returns-then-is_err-clause-aimed_as : goal.returns-then-is_err-clause-aimed_as
-returns-then-is_err-clause-aimed_as c = λ g.
-    let p = err_of c.place_goal-placed.result (sym c.is_err.ensures.value ∙ c.if-is_err.true) in
-    let h = with_halts g c.in_ok-stated.ensures.stated_as p.0 (rw p.1 at c.place_goal-placed.ensures.placed_as) in
-    rw p.1 (
-      h.0,
-      h.1,
-      tail_again c.args.board.now.lists.now ENTRIES c.requires.lists_len.0 c.args.board.now.n.entries g.fits c.requires.lists_len.1
-          c.read_stated.new.out c.read_stated.auto.out c.place_goal-placed.ensures.only.3 c.clear.ensures,
-      h.2,
-    )
+pub returns-clause-aimed_as : goal.returns-clause-aimed_as
+returns-clause-aimed_as c = λ g. rw c.or_cleared.ensures.same
+    (with_either g c.in_ok-stated.ensures.stated_as _ _ c.place_goal-placed.result c.place_goal-placed.ensures.placed_as c.args.board.now.lists.now
+    c.requires.lists_len.0 c.requires.lists_len.1 c.read_stated.auto.out _ c.place_goal-placed.ensures.only.3 c.or_cleared.ensures.cleared)

@@ -6,33 +6,33 @@ use Rattle.induction.proofs.Inducts.{judged_number, write_asks, count_is, count_
 use Rattle.induction.proofs.induct.judgments_of.Goals as goal
 
 pub write_out-count-requires-clause-set_in_bounds : goal.write_out-count-requires-clause-set_in_bounds
-write_out-count-requires-clause-set_in_bounds c = write_asks c.args.hyps.now c.requires.1 c.args.out.now c.requires.2
+write_out-count-requires-clause-set_in_bounds c = write_asks c.args.hyps.now (omega arith) c.args.out.now (omega arith)
 
 pub slice_bounds-cell-items-end : goal.slice_bounds-cell-items-end
-slice_bounds-cell-items-end c = omega (arith, count_few c.args.hyps.now c.requires.1 c.args.out.now c.requires.2 c.write_out-count.ensures, c.write_out-count.auto.out)
+slice_bounds-cell-items-end c = omega (arith, count_few c.args.hyps.now (omega arith) c.args.out.now (omega arith) c.write_out-count.ensures)
 
 pub slice_bounds-cell-items-end-2 : goal.slice_bounds-cell-items-end-2
 slice_bounds-cell-items-end-2 c = sym
     (length-take-le _ _
-    (omega (arith, count_few c.args.hyps.now c.requires.1 c.args.out.now c.requires.2 c.write_out-count.ensures, c.write_out-count.auto.out)))
+    (omega (arith, count_few c.args.hyps.now (omega arith) c.args.out.now (omega arith) c.write_out-count.ensures)))
 
 pub loop-cell-init : goal.loop-cell-init
-loop-cell-init c = judged_start c.args.hyps.now c.requires.1 c.args.out.now c.requires.2 c.write_out-count.ensures
+loop-cell-init c = judged_start c.args.hyps.now (omega arith) c.args.out.now (omega arith) c.write_out-count.ensures
 
 pub judgment_of-requires : goal.judgment_of-requires
 judgment_of-requires c = omega (
   arith,
   length_fact_rows c.args.facts.now,
-  c.requires.0,
+  c.requires,
   judged_fact c.args.hyps.now c.loop-cell.invariant (omega (arith, c.loop-cell.auto.cell-items, c.loop-cell-test.true)),
 )
 
 pub loop-cell-preserved : goal.loop-cell-preserved
-loop-cell-preserved c = judged_again c.args.hyps.now c.loop-cell.invariant (omega (arith, c.loop-cell.auto.cell-items, c.loop-cell-test.true)) (judged_number c.args.facts.now _ (omega (arith, length_fact_rows c.args.facts.now, c.requires.0, judged_fact c.args.hyps.now c.loop-cell.invariant (omega (arith, c.loop-cell.auto.cell-items, c.loop-cell-test.true)))) c.judgment_of.ensures)
+loop-cell-preserved c = judged_again c.args.hyps.now c.loop-cell.invariant (omega (arith, c.loop-cell.auto.cell-items, c.loop-cell-test.true)) (judged_number c.args.facts.now _ (omega (arith, length_fact_rows c.args.facts.now, c.requires, judged_fact c.args.hyps.now c.loop-cell.invariant (omega (arith, c.loop-cell.auto.cell-items, c.loop-cell-test.true)))) c.judgment_of.ensures)
 
 pub returns : goal.returns
 returns c = (
-  count_few c.args.hyps.now c.requires.1 c.args.out.now c.requires.2 c.write_out-count.ensures,
-  judged_done c.args.hyps.now c.loop-cell.invariant (count_is c.args.hyps.now c.requires.1 c.args.out.now c.requires.2 c.write_out-count.ensures)
+  count_few c.args.hyps.now (omega arith) c.args.out.now (omega arith) c.write_out-count.ensures,
+  judged_done c.args.hyps.now c.loop-cell.invariant (count_is c.args.hyps.now (omega arith) c.args.out.now (omega arith) c.write_out-count.ensures)
       (omega (arith, c.loop-cell.auto.cell-items, c.loop-cell-test.false)) _,
 )

@@ -3,7 +3,7 @@ use lib.ListN.{length}
 use native.Mathlib.Omega.{arith}
 use Rattle.rules.specs.Limits.{ARGUMENTS}
 use Rattle.referring.specs.Laws.Fronts.{front_room, front_count, back_room, back_count, front_cleared}
-use Rattle.induction.specs.Inducing.{IDS}
+use Rattle.referring.specs.Ids.{IDS}
 use Rattle.induction.proofs.induct.on_motive.Goals as goal
 
 pub slice_bounds-motive_cases-end : goal.slice_bounds-motive_cases-end

@@ -1,4 +1,3 @@
-use native.Mathlib.Omega.{arith}
 use Rattle.std.proofs.lemmas.Result.{err_from_is_err_and}
 use Rattle.induction.proofs.CaseEnds.{end_stopped, end_insert, end_unsupposed, end_rows, resting, end_passed}
 use Rattle.induction.proofs.Inducts.{plain_with, plain_without, rest_given}
@@ -23,15 +22,15 @@ slice_bounds-rows-end c = end_rows _ c.args.ids.now c.requires.in_case c.require
 
 pub case_fact-requires : goal.case_fact-requires
 case_fact-requires c =
-    let b = resting _ c.args.ids.now c.requires.in_case c.requires.cased c.requires.scratch _ _ c.at_constructor.new.out _ c.at_constructor.auto.out c.in_ok-judgment.ensures.moved_as _ _ c.hypotheses.new.ids _ c.in_ok-end.ensures.hyps_made_as _ c.insert_all.auto.set c.insert_all.ensures c.hypotheses.auto.ids c.requires.in_case in
-    rest_given b _ (omega arith) (elim c.if-width-eq0.branch [
+    let b = resting _ c.args.ids.now c.requires.in_case c.requires.cased c.requires.scratch _ _ c.at_constructor.new.out _ c.at_constructor.auto.out c.in_ok-judgment.ensures.moved_as _ _ c.hypotheses.new.ids _ c.in_ok-end.ensures.hyps_made_as _ c.insert_all.ensures c.hypotheses.auto.ids c.requires.in_case in
+    rest_given b _ (elim c.if-width-eq0.branch [
       | then-width-eq0 w ↦ λ t l. rw w.plain-is (plain_without b w.if-width-eq0.true _ w.insert_all-then-width-eq0.ensures t l)
       | else-width-eq0 w ↦ λ t l. rw w.plain-is (plain_with b w.if-width-eq0.false t l)
     ])
 
 pub returns-clause-passed_as : goal.returns-clause-passed_as
-returns-clause-passed_as c = λ g. end_passed _ c.args.ids.now c.requires.in_case c.requires.cased c.requires.scratch _ _ c.at_constructor.new.out _ c.at_constructor.auto.out c.in_ok-judgment.ensures.moved_as _ _ c.hypotheses.new.ids _ c.in_ok-end.ensures.hyps_made_as _ c.insert_all.auto.set c.insert_all.ensures c.hypotheses.auto.ids g _ _
-    (λ b. c.case_fact.ensures (rest_given b _ (omega arith) (elim c.if-width-eq0.branch [
+returns-clause-passed_as c = λ g. end_passed _ c.args.ids.now c.requires.in_case c.requires.cased c.requires.scratch _ _ c.at_constructor.new.out _ c.at_constructor.auto.out c.in_ok-judgment.ensures.moved_as _ _ c.hypotheses.new.ids _ c.in_ok-end.ensures.hyps_made_as _ c.insert_all.ensures c.hypotheses.auto.ids g _ _
+    (λ b. c.case_fact.ensures (rest_given b _ (elim c.if-width-eq0.branch [
       | then-width-eq0 w ↦ λ t l. rw w.plain-is (plain_without b w.if-width-eq0.true _ w.insert_all-then-width-eq0.ensures t l)
       | else-width-eq0 w ↦ λ t l. rw w.plain-is (plain_with b w.if-width-eq0.false t l)
     ])) b.there)

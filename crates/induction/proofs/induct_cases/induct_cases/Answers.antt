@@ -12,39 +12,39 @@ loop-item-init c = rw (c.into_iter-item-iterator.ensures.into_iter_gives, c.all-
 pub returns-in_default-clause-passed_as : goal.returns-in_default-clause-passed_as
 returns-in_default-clause-passed_as c =
     let h = here c.loop-item.invariant.cells c.in-Some.ensures.steps in
-    λ g. cases_over g (c.loop-item.invariant.cases g) h c.next_constructor.ensures c.in_default.is
+    λ g. cases_over g (c.loop-item.invariant.cases g) h (rw c.symbol_table-known.ensures at c.next_constructor.ensures) c.in_default.is
 
 pub read_case-requires : goal.read_case-requires
 read_case-requires c =
     let h = here c.loop-item.invariant.cells c.in-Some.ensures.steps in
-    (cases_item c.requires.case_items (c.loop-item.invariant.cases c.requires.case_items) h c.next_constructor.ensures c.in-Some-next_constructor.is, cases_known c.requires.case_items (c.loop-item.invariant.cases c.requires.case_items) h c.next_constructor.ensures c.in-Some-next_constructor.is)
+    (cases_item c.requires.case_items (c.loop-item.invariant.cases c.requires.case_items) h (rw c.symbol_table-known.ensures at c.next_constructor.ensures) c.in-Some-next_constructor.is, cases_known c.requires.case_items (c.loop-item.invariant.cases c.requires.case_items) h (rw c.symbol_table-known.ensures at c.next_constructor.ensures) c.in-Some-next_constructor.is)
 
 pub returns-in_err-case-clause-passed_as : goal.returns-in_err-case-clause-passed_as
 returns-in_err-case-clause-passed_as c =
     let h = here c.loop-item.invariant.cells c.in-Some.ensures.steps in
-    λ g. rw (handed c.from_residual.result c.from_residual.ensures) (cases_unread g (c.loop-item.invariant.cases g) h c.next_constructor.ensures c.in-Some-next_constructor.is c.in_err-case.ensures)
+    λ g. rw (handed c.from_residual.result c.from_residual.ensures) (cases_unread g (c.loop-item.invariant.cases g) h (rw c.symbol_table-known.ensures at c.next_constructor.ensures) c.in-Some-next_constructor.is c.in_err-case.ensures)
 
 pub case_terms-requires-clause-in_case : goal.case_terms-requires-clause-in_case
 case_terms-requires-clause-in_case c =
     let h = here c.loop-item.invariant.cells c.in-Some.ensures.steps in
-    rw c.facts.ensures (cases_in c.requires.case_items (c.loop-item.invariant.cases c.requires.case_items) h c.next_constructor.ensures c.in-Some-next_constructor.is c.in_ok-case.ensures)
+    rw c.facts.ensures (cases_in c.requires.case_items (c.loop-item.invariant.cases c.requires.case_items) h (rw c.symbol_table-known.ensures at c.next_constructor.ensures) c.in-Some-next_constructor.is c.in_ok-case.ensures)
 
 pub case_terms-requires-clause-cased : goal.case_terms-requires-clause-cased
 case_terms-requires-clause-cased c =
     let h = here c.loop-item.invariant.cells c.in-Some.ensures.steps in
-    cases_cased c.requires.case_items (c.loop-item.invariant.cases c.requires.case_items) h c.next_constructor.ensures c.in-Some-next_constructor.is c.in_ok-case.ensures
+    cases_cased c.requires.case_items (c.loop-item.invariant.cases c.requires.case_items) h (rw c.symbol_table-known.ensures at c.next_constructor.ensures) c.in-Some-next_constructor.is c.in_ok-case.ensures
 
 pub returns-in_err-case_terms-clause-passed_as : goal.returns-in_err-case_terms-clause-passed_as
 returns-in_err-case_terms-clause-passed_as c =
     let h = here c.loop-item.invariant.cells c.in-Some.ensures.steps in
     λ g.
     let p = handed c.from_residual-in_err-case_terms.result c.from_residual-in_err-case_terms.ensures in
-    rw p (cases_stopped g (c.loop-item.invariant.cases g) h c.next_constructor.ensures c.in-Some-next_constructor.is c.in_ok-case.ensures _ _ _ (rw c.facts.ensures at c.in_err-case_terms.ensures.passed_as))
+    rw p (cases_stopped g (c.loop-item.invariant.cases g) h (rw c.symbol_table-known.ensures at c.next_constructor.ensures) c.in-Some-next_constructor.is c.in_ok-case.ensures _ _ _ (rw c.facts.ensures at c.in_err-case_terms.ensures.passed_as))
 
 pub overflow_add-from : goal.overflow_add-from
 overflow_add-from c =
     let h = here c.loop-item.invariant.cells c.in-Some.ensures.steps in
-    omega (arith, cases_small c.requires.case_items (c.loop-item.invariant.cases c.requires.case_items) h c.next_constructor.ensures c.in-Some-next_constructor.is)
+    omega (arith, cases_small c.requires.case_items (c.loop-item.invariant.cases c.requires.case_items) h (rw c.symbol_table-known.ensures at c.next_constructor.ensures) c.in-Some-next_constructor.is)
 
 pub loop-item-preserved : goal.loop-item-preserved
 loop-item-preserved c =
@@ -54,7 +54,7 @@ loop-item-preserved c =
       same = (c.case_terms.ensures.same_tables.0 ∙ c.loop-item.invariant.same.0, c.case_terms.ensures.same_tables.1 ∙ c.loop-item.invariant.same.1);
       memo = c.case_terms.ensures.memo_unchanged ∙ c.loop-item.invariant.memo;
       ids = c.case_terms.auto.ids ∙ c.loop-item.invariant.ids;
-      cases = λ g. cases_again g (c.loop-item.invariant.cases g) h c.next_constructor.ensures c.in-Some-next_constructor.is c.in_ok-case.ensures _ _ _ (rw c.facts.ensures at c.in_ok-case_terms.ensures.passed_as);
+      cases = λ g. cases_again g (c.loop-item.invariant.cases g) h (rw c.symbol_table-known.ensures at c.next_constructor.ensures) c.in-Some-next_constructor.is c.in_ok-case.ensures _ _ _ (rw c.facts.ensures at c.in_ok-case_terms.ensures.passed_as);
     }
 
 pub returns-clause-passed_as : goal.returns-clause-passed_as

@@ -1,54 +1,35 @@
 use mathlib.Core.Path.{ap}
 use mathlib.Core.Bool.{not}
-use native.Mathlib.Omega.{arith}
 use Rattle.std.proofs.lemmas.Result.{err_from_is_err_and}
-use Rattle.inversion.proofs.InvertNaming.{naming_high, naming_index, naming_missing, naming_fact, naming_other, naming_hyps, naming_stop, naming_read}
+use Rattle.inversion.proofs.InvertNaming.{naming_index, naming_missing, naming_fact, naming_other, naming_hyps, naming_stop, naming_read}
 use Rattle.inversion.proofs.invert.hypothesis.Goals as goal
 
-pub offset_bounds-cells-at : goal.offset_bounds-cells-at
-offset_bounds-cells-at c = omega (arith, naming_high c.requires.0 2 (omega arith) c.place-at.ensures, c.well_formed)
-
-pub slice_bounds-earlier-count : goal.slice_bounds-earlier-count
-slice_bounds-earlier-count c = naming_high c.requires.0 2 (omega arith) c.place-at.ensures
-
-pub slice_bounds-earlier-start : goal.slice_bounds-earlier-start
-slice_bounds-earlier-start c = naming_high c.requires.0 2 (omega arith) c.place-at.ensures
-
 pub earlier-requires : goal.earlier-requires
-earlier-requires c = naming_index c.requires.0 c.place-at.ensures
+earlier-requires c = naming_index c.requires.0 c.from.ensures
 
 pub returns-in_err-i : goal.returns-in_err-i
 returns-in_err-i c = λ g. let p = err_from_is_err_and c.from_residual.result c.from_residual.ensures.1 in
-    rw (p.1, p.2) (naming_missing g c.place-at.ensures c.in_err-i.ensures)
+    rw (p.1, p.2) (naming_missing g c.from.ensures c.in_err-i.ensures)
 
 pub is_plain-requires : goal.is_plain-requires
-is_plain-requires c = naming_fact c.requires.0 c.place-at.ensures c.in_ok-i.ensures
+is_plain-requires c = naming_fact c.requires.0 c.from.ensures c.in_ok-i.ensures
 
 pub returns-then-not-is_plain : goal.returns-then-not-is_plain
-returns-then-not-is_plain c = λ g. naming_other g c.place-at.ensures c.in_ok-i.ensures c.is_plain.ensures
+returns-then-not-is_plain c = λ g. naming_other g c.from.ensures c.in_ok-i.ensures c.is_plain.ensures
     (ap not c.if-not-is_plain.true)
-
-pub offset_bounds-cells-third : goal.offset_bounds-cells-third
-offset_bounds-cells-third c = omega (arith, naming_high c.requires.0 3 (omega arith) c.place-third.ensures, c.well_formed)
-
-pub slice_bounds-any_hyps-count : goal.slice_bounds-any_hyps-count
-slice_bounds-any_hyps-count c = naming_high c.requires.0 3 (omega arith) c.place-third.ensures
-
-pub slice_bounds-any_hyps-start : goal.slice_bounds-any_hyps-start
-slice_bounds-any_hyps-start c = naming_high c.requires.0 3 (omega arith) c.place-third.ensures
 
 pub any_hyps-requires : goal.any_hyps-requires
 any_hyps-requires c = (
-  naming_hyps c.requires.0 c.place-at.ensures c.in_ok-i.ensures c.is_plain.ensures
-      (ap not c.if-not-is_plain.false) c.place-third.ensures,
+  naming_hyps c.requires.0 c.from.ensures c.in_ok-i.ensures c.is_plain.ensures
+      (ap not c.if-not-is_plain.false) c.from-listed.ensures,
   c.requires.1,
 )
 
 pub returns-in_err-any_hyps : goal.returns-in_err-any_hyps
 returns-in_err-any_hyps c = λ g. let p = err_from_is_err_and c.from_residual-in_err-any_hyps.result c.from_residual-in_err-any_hyps.ensures.1 in
-    rw (p.1, p.2) (naming_stop g c.place-at.ensures c.in_ok-i.ensures c.is_plain.ensures
-    (ap not c.if-not-is_plain.false) c.place-third.ensures (λ w. (c.in_err-any_hyps.ensures w).0))
+    rw (p.1, p.2) (naming_stop g c.from.ensures c.in_ok-i.ensures c.is_plain.ensures
+    (ap not c.if-not-is_plain.false) c.from-listed.ensures (λ w. (c.in_err-any_hyps.ensures w).0))
 
 pub returns : goal.returns
-returns c = λ g. naming_read g c.place-at.ensures c.in_ok-i.ensures c.is_plain.ensures
-    (ap not c.if-not-is_plain.false) c.place-third.ensures c.in_ok-any_hyps.ensures
+returns c = λ g. naming_read g c.from.ensures c.in_ok-i.ensures c.is_plain.ensures
+    (ap not c.if-not-is_plain.false) c.from-listed.ensures c.in_ok-any_hyps.ensures

@@ -11,9 +11,9 @@ pub loop-v-preserved : goal.loop-v-preserved
 loop-v-preserved c = (
   omega (arith, c.loop-v.invariant.0),
   omega (arith, c.loop-v-test.true),
-  c.put_var.auto.vars ∙ c.loop-v.invariant.2,
+  c.put_made_var.auto.vars ∙ c.loop-v.invariant.2,
   λ goals text vs h. rows_end
-      c.put_var.ensures
+      c.put_made_var.ensures
       (rows_more vs _ _ (omega (arith, c.loop-v.invariant.0, h.stand.many)) (omega (arith, c.loop-v-test.true, c.requires.2, c.well_formed))
       (omega (arith, c.loop-v-test.true, c.requires.2)) (c.loop-v.invariant.3 goals text vs h)),
 )

@@ -1,11 +1,12 @@
 use mathlib.Core.Path.{refl, ◌∙◌}
 use Rattle.std.proofs.lemmas.Result.{err_from_is_err_and}
 use Rattle.terms.specs.Laws.Answers.{after_term, after_full}
-use Rattle.inversion.proofs.InvertKeeps.{vars_start, vars_over, vars_full, vars_again}
+use Rattle.terms.specs.Laws.Bound.{cells_zeros}
+use Rattle.inversion.proofs.InvertKeeps.{vars_start, vars_over, vars_full, vars_bound}
 use Rattle.inversion.proofs.meeting.keep_vars.Goals as goal
 
 pub loop-k-init : goal.loop-k-init
-loop-k-init c = (vars_start _ c.requires.0 c.requires.3, (refl, refl))
+loop-k-init c = (vars_start _ c.requires.0 (cells_zeros _), (refl, refl))
 
 pub keep_var-requires : goal.keep_var-requires
 keep_var-requires c = (c.loop-k.invariant.0.on.grown.good, c.requires.1 c.loop-k.k c.loop-k-test.true)
@@ -16,7 +17,7 @@ returns-in_err-term-clause-kept_as c = let p = err_from_is_err_and c.from_residu
 
 pub loop-k-preserved : goal.loop-k-preserved
 loop-k-preserved c = (
-  vars_again c.loop-k.invariant.0 c.requires.2 c.loop-k-test.true (after_term c.keep_var.ensures.kept c.in_ok-term.was),
+  vars_bound c.loop-k.bound c.loop-k.invariant.0 c.requires.2 c.loop-k-test.true (after_term c.keep_var.ensures.kept c.in_ok-term.was),
   (c.in_ok-term.ensures.same_tables.0 ∙ c.loop-k.invariant.1.0, c.in_ok-term.ensures.same_tables.1 ∙ c.loop-k.invariant.1.1),
 )
 

@@ -1,6 +1,7 @@
 use mathlib.Core.Path.{refl}
 use native.Mathlib.Omega.{arith}
 use Rattle.kernel.proofs.Handed.{handed}
+use Rattle.kernel.proofs.Missing.{is_there, is_absent}
 use Rattle.kernel.proofs.Spellings.{proper_here, proper_nowhere}
 use Rattle.kernel.proofs.Declared.{reaching}
 use Rattle.sexp.specs.FoundLaws.{names_of}
@@ -24,21 +25,15 @@ returns-in_err-name c = λ T xs s h k n. rw (handed c.from_residual-in_err-name.
     (rule_no_name T xs h (c.in_ok-size.ensures T (begun T) _ s (reads_none T _ refl h) k n).written
     (proper_nowhere 1 xs c.proper_at.ensures c.in_err-name.was k))
 
-pub slice_bounds-named-count : goal.slice_bounds-named-count
-slice_bounds-named-count c = omega (arith, (proper_here 1 c.requires.form.xs c.proper_at.ensures c.in_ok-name.was c.requires.form.holds).end)
-
-pub slice_bounds-named-start : goal.slice_bounds-named-start
-slice_bounds-named-start c = omega (arith, (proper_here 1 c.requires.form.xs c.proper_at.ensures c.in_ok-name.was c.requires.form.holds).end)
-
-pub slice_bounds-named-end : goal.slice_bounds-named-end
-slice_bounds-named-end c = (proper_here 1 c.requires.form.xs c.proper_at.ensures c.in_ok-name.was c.requires.form.holds).high
+pub of-requires : goal.of-requires
+of-requires c = let name = proper_here 1 c.requires.form.xs c.proper_at.ensures c.in_ok-name.was c.requires.form.holds in (omega (arith, name.end), name.high)
 
 pub named-requires : goal.named-requires
 named-requires c = (names_of rule_name c.requires.some_rules.0, rules_rows c.requires.some_rules.1)
 
-pub returns-in_default : goal.returns-in_default
-returns-in_default c = λ T xs s h k n. rule_again T xs h (c.in_ok-size.ensures T (begun T) _ s (reads_none T _ refl h) k n).written
-    (proper_here 1 xs c.proper_at.ensures c.in_ok-name.was k) c.named.ensures c.in_default.is
+pub returns-then-is_some : goal.returns-then-is_some
+returns-then-is_some c = λ T xs s h k n. rule_again T xs h (c.in_ok-size.ensures T (begun T) _ s (reads_none T _ refl h) k n).written
+    (proper_here 1 xs c.proper_at.ensures c.in_ok-name.was k) (rw c.of.ensures at c.named.ensures) (is_there _ c.is_some.ensures c.if-is_some.true).1
 
 pub store-requires : goal.store-requires
 store-requires c =
@@ -52,7 +47,7 @@ returns-in_err-store c = λ T xs s h k n.
     let name = proper_here 1 xs c.proper_at.ensures c.in_ok-name.was k in
     let said = c.in_ok-size.ensures T (begun T) _ s (reads_none T _ refl h) k n in
     rw (handed c.from_residual-in_err-store.result c.from_residual-in_err-store.ensures)
-    (rule_unput T xs h said.written name c.named.ensures c.in-None.is
+    (rule_unput T xs h said.written name (rw c.of.ensures at c.named.ensures) (is_absent _ c.is_some.ensures c.if-is_some.false)
     (c.in_err-store.ensures c.args.text.now c.read_rule.new.patterns T.rules _ (held_still T xs h said.written)
     (rule_is T xs h said.written name said.many)))
 
@@ -60,6 +55,6 @@ pub returns : goal.returns
 returns c = λ T xs s h k n.
     let name = proper_here 1 xs c.proper_at.ensures c.in_ok-name.was k in
     let said = c.in_ok-size.ensures T (begun T) _ s (reads_none T _ refl h) k n in
-    rule_put T xs h said.written name c.named.ensures c.in-None.is
+    rule_put T xs h said.written name (rw c.of.ensures at c.named.ensures) (is_absent _ c.is_some.ensures c.if-is_some.false)
     (c.in_ok-store.ensures c.args.text.now c.read_rule.new.patterns T.rules _ (held_still T xs h said.written)
     (rule_is T xs h said.written name said.many))

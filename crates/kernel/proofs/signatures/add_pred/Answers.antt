@@ -3,6 +3,7 @@ use native.Mathlib.Omega.{arith}
 use Rattle.kernel.specs.Parsed.{DeclaredAs}
 use Rattle.kernel.specs.Tables.{lists_of}
 use Rattle.kernel.proofs.Handed.{handed}
+use Rattle.kernel.proofs.Missing.{is_there, is_absent}
 use Rattle.kernel.proofs.Spellings.{proper_here, proper_nowhere}
 use Rattle.kernel.specs.SignatureRows.{symbols_rows}
 use Rattle.kernel.proofs.Declared.{reaching, stored_of, pred_nameless, pred_stops, pred_again, pred_is_new, symbol_cells_lem, symbol_fits}
@@ -15,26 +16,26 @@ pub returns-in_err-name-clause-declared : goal.returns-in_err-name-clause-declar
 returns-in_err-name-clause-declared c = λ T xs h k n. rw (handed c.from_residual.result c.from_residual.ensures) (pred_nameless T xs (proper_nowhere 1 xs c.proper_at.ensures c.in_err-name.was k), h)
 
 pub arguments_at-requires : goal.arguments_at-requires
-arguments_at-requires c = record { reaching = reaching 2 c.requires.form (omega arith); some_sorts = (c.requires.held.0.sorts, c.requires.held.1.sorts); row_len = refl }
+arguments_at-requires c = rw c.sort_table-sorts.ensures record { reaching = reaching 2 c.requires.form (omega arith); some_sorts = (c.requires.held.0.sorts, c.requires.held.1.sorts); row_len = refl }
 
 pub returns-in_err-arity-clause-declared : goal.returns-in_err-arity-clause-declared
 returns-in_err-arity-clause-declared c = λ T xs h k n. rw (handed c.from_residual-in_err-arity.result c.from_residual-in_err-arity.ensures) (
   pred_stops T xs (proper_here 1 xs c.proper_at.ensures c.in_ok-name.was k) _ c.arguments_at.new.row c.arguments_at.result
-      (c.arguments_at.ensures T xs h.sorts k (omega (arith, n))) c.in_err-arity.was,
+      ((rw c.sort_table-sorts.ensures at c.arguments_at.ensures) T xs h.sorts k (omega (arith, n))) c.in_err-arity.was,
   h,
 )
 
-pub slice_bounds-bytes-end : goal.slice_bounds-bytes-end
-slice_bounds-bytes-end c = (proper_here 1 c.requires.form.xs c.proper_at.ensures c.in_ok-name.was c.requires.form.holds).high
+pub of-bytes-requires : goal.of-bytes-requires
+of-bytes-requires c = let name = proper_here 1 c.requires.form.xs c.proper_at.ensures c.in_ok-name.was c.requires.form.holds in (omega (arith, name.end), name.high)
 
 pub named-requires : goal.named-requires
 named-requires c = rw c.known-known.ensures (c.requires.held.0.symbols, symbols_rows c.requires.held.1.symbols)
 
-pub returns-in_default-clause-declared : goal.returns-in_default-clause-declared
-returns-in_default-clause-declared c = λ T xs h k n. (
+pub returns-then-is_some-clause-declared : goal.returns-then-is_some-clause-declared
+returns-then-is_some-clause-declared c = λ T xs h k n. (
   pred_again T xs (proper_here 1 xs c.proper_at.ensures c.in_ok-name.was k)
-      (stored_of _ c.arguments_at.new.row _ c.arguments_at.result (c.arguments_at.ensures T xs h.sorts k (omega (arith, n)))
-      c.in_ok-arity.was) ((rw c.known-known.ensures at c.named.ensures) T.symbols (symbols_rows h.symbols)) c.in_default.is,
+      (stored_of _ c.arguments_at.new.row _ c.arguments_at.result ((rw c.sort_table-sorts.ensures at c.arguments_at.ensures) T xs h.sorts k (omega (arith, n)))
+      c.in_ok-arity.was) ((rw (c.known-known.ensures, c.of-bytes.ensures) at c.named.ensures) T.symbols (symbols_rows h.symbols)) (is_there _ c.is_some.ensures c.if-is_some.true).1,
   h,
 )
 
@@ -43,15 +44,15 @@ store-requires c = let held = c.requires.held in
     let form = c.requires.form in
     symbol_fits held.1.symbols (proper_here 1 form.xs c.proper_at.ensures c.in_ok-name.was form.holds) form.short
     (omega arith)
-    (stored_of _ c.arguments_at.new.row _ c.arguments_at.result (c.arguments_at.ensures held.0 form.xs held.1.sorts form.holds (omega (arith, form.many)))
+    (stored_of _ c.arguments_at.new.row _ c.arguments_at.result ((rw c.sort_table-sorts.ensures at c.arguments_at.ensures) held.0 form.xs held.1.sorts form.holds (omega (arith, form.many)))
     c.in_ok-arity.was).most _ c.arguments_at.auto.row
 
 pub returns-clause-declared : goal.returns-clause-declared
 returns-clause-declared c = λ T xs h k n.
     let name = proper_here 1 xs c.proper_at.ensures c.in_ok-name.was k in
     let stored =
-    stored_of _ c.arguments_at.new.row _ c.arguments_at.result (c.arguments_at.ensures T xs h.sorts k (omega (arith, n)))
+    stored_of _ c.arguments_at.new.row _ c.arguments_at.result ((rw c.sort_table-sorts.ensures at c.arguments_at.ensures) T xs h.sorts k (omega (arith, n)))
     c.in_ok-arity.was in
     subst (λ z. DeclaredAs c.args.text.now (lists_of c.store.new.tables) c.store.new.tables.held T z c.store.result)
-    (sym (pred_is_new T xs name stored ((rw c.known-known.ensures at c.named.ensures) T.symbols (symbols_rows h.symbols)) c.in-None.is))
+    (sym (pred_is_new T xs name stored ((rw (c.known-known.ensures, c.of-bytes.ensures) at c.named.ensures) T.symbols (symbols_rows h.symbols)) (is_absent _ c.is_some.ensures c.if-is_some.false)))
     (c.store.ensures.declared c.args.text.now T _ h (symbol_cells_lem T xs name stored _ refl))

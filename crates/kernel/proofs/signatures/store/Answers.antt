@@ -8,8 +8,8 @@ use Rattle.kernel.proofs.signatures.store.Goals as goal
 pub returns-then-count-ge-SYMBOLS-clause-declared : goal.returns-then-count-ge-SYMBOLS-clause-declared
 returns-then-count-ge-SYMBOLS-clause-declared c = λ text T s h is. (symbol_full T s h.symbols c.if-count-ge-SYMBOLS.true, h)
 
-pub put_name-requires : goal.put_name-requires
-put_name-requires c = let held = c.args.tables.now.held.symbols in
+pub put_span-requires : goal.put_span-requires
+put_span-requires c = let held = c.args.tables.now.held.symbols in
     let first = length-set c.args.tables.now.symbols.now (4 * held) c.args.output in
     record {
       inside =
@@ -27,5 +27,5 @@ put_name-requires c = let held = c.args.tables.now.held.symbols in
 pub returns-clause-declared : goal.returns-clause-declared
 returns-clause-declared c = λ text T s h is.
     let stored = symbol_stored T s h.symbols _ _ _ _ _ is c.if-count-ge-SYMBOLS.false in
-    rw (c.put_name.ensures, row_pasted _ _ (ARGUMENTS * c.args.tables.now.held.symbols) _ c.write.ensures)
+    rw (c.put_span.ensures, row_pasted _ _ (ARGUMENTS * c.args.tables.now.held.symbols) _ c.write.ensures)
     (record { now = _; is = stored.is; held = record { sorts = h.sorts; symbols = stored.held; rules = h.rules } })

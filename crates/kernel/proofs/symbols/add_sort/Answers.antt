@@ -2,6 +2,7 @@ use native.Mathlib.Omega.{arith}
 use Rattle.kernel.proofs.Handed.{handed}
 use Rattle.kernel.proofs.Spellings.{proper_here, proper_nowhere}
 use Rattle.kernel.proofs.Declared.{sort_nameless}
+use Rattle.kernel.proofs.Missing.{is_there, is_absent}
 use Rattle.kernel.proofs.Holding.{sort_fits, sort_twice, sort_full, sort_stored}
 use Rattle.kernel.proofs.symbols.add_sort.Goals as goal
 
@@ -11,34 +12,33 @@ proper_at-requires c = record { xs = c.requires.form.xs; holds = c.requires.form
 pub returns-in_err-name-clause-declared : goal.returns-in_err-name-clause-declared
 returns-in_err-name-clause-declared c = λ T xs h k. rw (handed c.from_residual.result c.from_residual.ensures) (sort_nameless T xs (proper_nowhere 1 xs c.proper_at.ensures c.in_err-name.was k), h)
 
-pub slice_bounds-bytes-end : goal.slice_bounds-bytes-end
-slice_bounds-bytes-end c = (proper_here 1 c.requires.form.xs c.proper_at.ensures c.in_ok-name.was c.requires.form.holds).high
+pub of-bytes-requires : goal.of-bytes-requires
+of-bytes-requires c = let name = proper_here 1 c.requires.form.xs c.proper_at.ensures c.in_ok-name.was c.requires.form.holds in (omega (arith, name.end), name.high)
 
-pub sort_named-requires : goal.sort_named-requires
-sort_named-requires c = (c.requires.held.0.sorts, c.requires.held.1.sorts)
+pub named-requires : goal.named-requires
+named-requires c = rw c.sort_table-sorts.ensures (c.requires.held.0.sorts, c.requires.held.1.sorts)
 
-pub returns-in_default-clause-declared : goal.returns-in_default-clause-declared
-returns-in_default-clause-declared c = λ T xs h k. (
-  sort_twice T xs h.sorts _ _ (proper_here 1 xs c.proper_at.ensures c.in_ok-name.was k) _ (c.sort_named.ensures T h.sorts) _
-      c.in_default.is,
+pub returns-then-is_some-clause-declared : goal.returns-then-is_some-clause-declared
+returns-then-is_some-clause-declared c = λ T xs h k. let again = is_there _ c.is_some.ensures c.if-is_some.true in (
+  sort_twice T xs h.sorts _ _ (proper_here 1 xs c.proper_at.ensures c.in_ok-name.was k) _ ((rw (c.sort_table-sorts.ensures, c.of-bytes.ensures) at c.named.ensures) T h.sorts) again.0 again.1,
   h,
 )
 
 pub returns-then-count-ge-SORTS-clause-declared : goal.returns-then-count-ge-SORTS-clause-declared
 returns-then-count-ge-SORTS-clause-declared c = λ T xs h k. (
-  sort_full T xs h.sorts _ _ (proper_here 1 xs c.proper_at.ensures c.in_ok-name.was k) _ (c.sort_named.ensures T h.sorts)
-      c.in-None.is c.if-count-ge-SORTS.true,
+  sort_full T xs h.sorts _ _ (proper_here 1 xs c.proper_at.ensures c.in_ok-name.was k) _ ((rw (c.sort_table-sorts.ensures, c.of-bytes.ensures) at c.named.ensures) T h.sorts)
+      (is_absent _ c.is_some.ensures c.if-is_some.false) c.if-count-ge-SORTS.true,
   h,
 )
 
-pub put_name-requires : goal.put_name-requires
-put_name-requires c = sort_fits c.requires.held.1.sorts _ _ _ (proper_here 1 c.requires.form.xs c.proper_at.ensures c.in_ok-name.was c.requires.form.holds) c.requires.form.short
+pub put_span-requires : goal.put_span-requires
+put_span-requires c = sort_fits c.requires.held.1.sorts _ _ _ (proper_here 1 c.requires.form.xs c.proper_at.ensures c.in_ok-name.was c.requires.form.holds) c.requires.form.short
     c.if-count-ge-SORTS.false
 
 pub returns-clause-declared : goal.returns-clause-declared
 returns-clause-declared c = λ T xs h k.
     let stored =
-    sort_stored T xs h.sorts _ _ (proper_here 1 xs c.proper_at.ensures c.in_ok-name.was k) _ (c.sort_named.ensures T h.sorts)
-    c.in-None.is c.if-count-ge-SORTS.false in
-    rw c.put_name.ensures
+    sort_stored T xs h.sorts _ _ (proper_here 1 xs c.proper_at.ensures c.in_ok-name.was k) _ ((rw (c.sort_table-sorts.ensures, c.of-bytes.ensures) at c.named.ensures) T h.sorts)
+    (is_absent _ c.is_some.ensures c.if-is_some.false) c.if-count-ge-SORTS.false in
+    rw c.put_span.ensures
     (record { now = _; is = stored.is; held = record { sorts = stored.held; symbols = h.symbols; rules = h.rules } })

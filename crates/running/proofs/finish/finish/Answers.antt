@@ -11,10 +11,9 @@ returns-in-Err-clause-finishes c =
 pub returns-then-many-ne0-clause-finishes : goal.returns-then-many-ne0-clause-finishes
 returns-then-many-ne0-clause-finishes c =
     let stopped = rw c.behind-refused.ensures at c.left_in.ensures in
-    let from = rw stopped at c.from.ensures in
-    rw c.in-Ok.is (λ g. question_53 g from c.list_missing-many.ensures c.if-many-ne0.true)
+    rw c.in-Ok.is (λ g. question_53 g stopped c.count_missing-many.ensures c.list_missing.ensures c.if-many-ne0.true)
 
 pub returns-clause-finishes : goal.returns-clause-finishes
 returns-clause-finishes c =
     let opens = rw c.terms.ensures at c.count_open-open_goals.ensures in
-    rw c.in-Ok.is (λ g. accepted g c.list_missing-many.ensures c.if-many-ne0.false (opens (open_rows_given g)))
+    rw c.in-Ok.is (λ g. accepted g c.count_missing-many.ensures (rw c.requires.1 at c.clear.ensures) c.if-many-ne0.false (opens (open_rows_given g)))

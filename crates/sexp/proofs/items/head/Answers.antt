@@ -1,5 +1,5 @@
 use Rattle.std.proofs.Common.{◌≡◌, length, rules}
-use Rattle.sexp.proofs.Firsts.{head_none, head_list, head_start, head_high, head_atom}
+use Rattle.sexp.proofs.Firsts.{head_none, head_list, head_start, head_atom}
 use Rattle.sexp.proofs.items.head.Goals as goal
 
 pub returns-then-is_empty : goal.returns-then-is_empty
@@ -8,15 +8,10 @@ returns-then-is_empty c = let z : length c.args.words.now ≡ 0 = search rules i
 pub returns-in_default : goal.returns-in_default
 returns-in_default c = let n : length c.args.words.now ≡ 0 → ⊥ = search rules in λ xs h. head_list xs h n c.item_at.ensures c.in_default.is
 
-pub atom_end-end-requires : goal.atom_end-end-requires
-atom_end-end-requires c = let n : length c.args.words.now ≡ 0 → ⊥ = search rules in head_start c.requires.0 c.requires.1 n c.item_at.ensures c.in-Atom.is
-
-pub slice_bounds-result-end : goal.slice_bounds-result-end
-slice_bounds-result-end c =
-    let n : length c.args.words.now ≡ 0 → ⊥ = search rules in
-    head_high c.requires.0 c.requires.1 n c.item_at.ensures c.in-Atom.is c.atom_end-end.ensures
+pub atom-requires : goal.atom-requires
+atom-requires c = let n : length c.args.words.now ≡ 0 → ⊥ = search rules in head_start c.requires.0 c.requires.1 n c.item_at.ensures c.in-Atom.is
 
 pub returns : goal.returns
 returns c =
     let n : length c.args.words.now ≡ 0 → ⊥ = search rules in
-    λ xs h. head_atom xs h n c.item_at.ensures c.in-Atom.is c.atom_end-end.ensures
+    λ xs h. rw c.atom.ensures (head_atom xs h n c.item_at.ensures c.in-Atom.is)

@@ -4,7 +4,7 @@ use Rattle.sexp.proofs.Tallies.{seek_start, seek_on, seek_over, seek_found}
 use Rattle.sexp.proofs.items.place.Goals as goal
 
 pub loop-k-init : goal.loop-k-init
-loop-k-init c = (c.args.number, omega arith, seek_start (c.requires) _)
+loop-k-init c = (c.args.number, omega arith, seek_start _)
 
 pub returns-then-at-words : goal.returns-then-at-words
 returns-then-at-words c = seek_over c.loop-k.invariant.2 c.if-at-words.true

@@ -17,23 +17,23 @@ pub bounds-terms-start : goal.bounds-terms-start
 bounds-terms-start t c =
     rw c.terms-terms.ensures (start_in _ _ _ c.requires.good _ c.requires.there _ (rw c.terms-terms.ensures at c.start_of-start.ensures))
 
-pub overflow_add-memo-then-head-ge-SYMBOLS : goal.overflow_add-memo-then-head-ge-SYMBOLS
-overflow_add-memo-then-head-ge-SYMBOLS t c =
-    let d = sub_var _ _ _ _ _ _ c.requires _ _ (rw c.terms-terms.ensures at c.start_of-start.ensures) (rw c.terms-terms.ensures at c.if-head-ge-SYMBOLS.true) (rw c.terms-terms.ensures at c.image_of-value.ensures) in
+pub overflow_add-memo-in-Variable : goal.overflow_add-memo-in-Variable
+overflow_add-memo-in-Variable t c =
+    let d = sub_var _ _ _ _ _ _ c.requires _ _ (rw c.terms-terms.ensures at c.start_of-start.ensures) (rw c.terms-terms.ensures at c.in-Variable.ensures.1) (rw (c.in-Variable.ensures.0, c.terms-terms.ensures) at c.image_of-value.ensures) in
     omega (arith, d.stored.there, c.requires.good.room)
 
-pub overflow_cast-memo-then-head-ge-SYMBOLS : goal.overflow_cast-memo-then-head-ge-SYMBOLS
-overflow_cast-memo-then-head-ge-SYMBOLS t c =
-    let d = sub_var _ _ _ _ _ _ c.requires _ _ (rw c.terms-terms.ensures at c.start_of-start.ensures) (rw c.terms-terms.ensures at c.if-head-ge-SYMBOLS.true) (rw c.terms-terms.ensures at c.image_of-value.ensures) in
+pub overflow_cast-memo-in-Variable : goal.overflow_cast-memo-in-Variable
+overflow_cast-memo-in-Variable t c =
+    let d = sub_var _ _ _ _ _ _ c.requires _ _ (rw c.terms-terms.ensures at c.start_of-start.ensures) (rw c.terms-terms.ensures at c.in-Variable.ensures.1) (rw (c.in-Variable.ensures.0, c.terms-terms.ensures) at c.image_of-value.ensures) in
     omega (arith, d.stored.there, c.requires.good.room)
 
-pub returns-then-head-ge-SYMBOLS-clause-substituted : goal.returns-then-head-ge-SYMBOLS-clause-substituted
-returns-then-head-ge-SYMBOLS-clause-substituted t c = sub_var _ _ _ _ _ _ c.requires _ _ (rw c.terms-terms.ensures at c.start_of-start.ensures) (rw c.terms-terms.ensures at c.if-head-ge-SYMBOLS.true) (rw c.terms-terms.ensures at c.image_of-value.ensures)
+pub returns-in-Variable-clause-substituted : goal.returns-in-Variable-clause-substituted
+returns-in-Variable-clause-substituted t c = sub_var _ _ _ _ _ _ c.requires _ _ (rw c.terms-terms.ensures at c.start_of-start.ensures) (rw c.terms-terms.ensures at c.in-Variable.ensures.1) (rw (c.in-Variable.ensures.0, c.terms-terms.ensures) at c.image_of-value.ensures)
 
 pub loop-at-init : goal.loop-at-init
 loop-at-init t c = record {
   tables = (refl, refl);
-  looping = rw c.terms-terms.ensures (looping_begins _ _ _ _ _ _ _ c.requires (rw c.terms-terms.ensures at c.start_of-start.ensures) (rw c.terms-terms.ensures at c.if-head-ge-SYMBOLS.false));
+  looping = rw c.terms-terms.ensures (looping_begins _ _ _ _ _ _ _ c.requires (rw c.terms-terms.ensures at c.start_of-start.ensures) (rw c.terms-terms.ensures at c.in_default.ensures.1));
 }
 
 pub bounds-store-at : goal.bounds-store-at

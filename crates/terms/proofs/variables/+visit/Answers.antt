@@ -10,16 +10,18 @@ returns-then-not-is_open t c = elim c.then-not-is_open.branch [
   | then-not-is_open-via-else-not-is_open+then-has w ↦ seen_done _ _ _ _ _ _ c.requires.seen (sym w.if-has.true ∙ w.has.ensures)
 ]
 
-pub returns-then-head-ge-SYMBOLS : goal.returns-then-head-ge-SYMBOLS
-returns-then-head-ge-SYMBOLS t c =
+pub returns-in-Variable : goal.returns-in-Variable
+returns-in-Variable t c =
     let w = word_head _ _ _ _ c.requires.readable.good c.requires.readable.there _ c.node-node.ensures in
-    var_done _ _ _ _ c.requires.readable.good c.requires.readable.there _ refl _ _ _ c.requires.seen (rw w at c.if-head-ge-SYMBOLS.true) (rw w at c.insert.ensures)
+    let h = c.in-Variable.ensures in
+    var_done _ _ _ _ c.requires.readable.good c.requires.readable.there _ refl _ _ _ c.requires.seen (rw w at h.1) (rw (h.0, w) at c.insert.ensures)
 
 pub loop-arg-init : goal.loop-arg-init
 loop-arg-init t c =
     let w = word_head _ _ _ _ c.requires.readable.good c.requires.readable.there _ c.node-node.ensures in
+    let h = c.in_default.ensures in
     rw add-zero
-    (looping_begins _ _ _ _ _ _ _ c.requires.readable c.requires.seen (sym (c.is_open.ensures _ _ c.requires.readable.good c.requires.readable.there) ∙ c.if-not-is_open.false) refl (rw w at c.if-head-ge-SYMBOLS.false))
+    (looping_begins _ _ _ _ _ _ _ c.requires.readable c.requires.seen (sym (c.is_open.ensures _ _ c.requires.readable.good c.requires.readable.there) ∙ c.if-not-is_open.false) refl (rw w at h.1))
 
 pub visit-requires : goal.visit-requires
 visit-requires t c =

@@ -8,27 +8,27 @@ pub bounds-left-0 : goal.bounds-left-0
 bounds-left-0 c = left_some _ _ _ _ _ _ c.requires c.if-s-t.false _ c.node-left.ensures
 
 pub bind-requires : goal.bind-requires
-bind-requires c = left_asks _ _ _ _ _ _ c.requires c.if-s-t.false _ c.node-left.ensures c.if-head-ge-SYMBOLS.true
+bind-requires c = rw c.in-Variable.ensures.0 (left_asks _ _ _ _ _ _ c.requires c.if-s-t.false _ c.node-left.ensures c.in-Variable.ensures.1)
 
-pub returns-then-head-ge-SYMBOLS-clause-answered : goal.returns-then-head-ge-SYMBOLS-clause-answered
-returns-then-head-ge-SYMBOLS-clause-answered c = left_binds _ _ _ _ _ _ c.requires c.if-s-t.false _ c.node-left.ensures c.if-head-ge-SYMBOLS.true c.bind.result c.bind.ensures.answered
+pub returns-in-Variable-clause-answered : goal.returns-in-Variable-clause-answered
+returns-in-Variable-clause-answered c = left_binds _ _ _ _ _ _ c.requires c.if-s-t.false _ c.node-left.ensures c.in-Variable.ensures.1 c.bind.result (rw c.in-Variable.ensures.0 at c.bind.ensures.answered)
 
 pub bounds-right-0 : goal.bounds-right-0
-bounds-right-0 c = right_some _ _ _ _ _ _ c.requires c.if-s-t.false _ c.node-left.ensures c.if-head-ge-SYMBOLS.false _ c.node-right.ensures
+bounds-right-0 c = right_some _ _ _ _ _ _ c.requires c.if-s-t.false _ c.node-left.ensures c.in_default.ensures.1 _ c.node-right.ensures
 
-pub bind-requires-then-other-ge-SYMBOLS : goal.bind-requires-then-other-ge-SYMBOLS
-bind-requires-then-other-ge-SYMBOLS c = right_asks _ _ _ _ _ _ c.requires c.if-s-t.false _ c.node-left.ensures c.if-head-ge-SYMBOLS.false _ c.node-right.ensures c.if-other-ge-SYMBOLS.true
+pub bind-requires-in-Variable-head_of : goal.bind-requires-in-Variable-head_of
+bind-requires-in-Variable-head_of c = rw c.in-Variable-head_of.ensures.0 (right_asks _ _ _ _ _ _ c.requires c.if-s-t.false _ c.node-left.ensures c.in_default.ensures.1 _ c.node-right.ensures c.in-Variable-head_of.ensures.1)
 
-pub returns-then-other-ge-SYMBOLS-clause-answered : goal.returns-then-other-ge-SYMBOLS-clause-answered
-returns-then-other-ge-SYMBOLS-clause-answered c = right_binds _ _ _ _ _ _ c.requires c.if-s-t.false _ c.node-left.ensures c.if-head-ge-SYMBOLS.false _ c.node-right.ensures c.if-other-ge-SYMBOLS.true c.bind-then-other-ge-SYMBOLS.result
-    c.bind-then-other-ge-SYMBOLS.ensures.answered
-
-pub returns-then-head-other-clause-answered : goal.returns-then-head-other-clause-answered
-returns-then-head-other-clause-answered c = heads_clash _ _ _ _ _ _ c.requires c.if-s-t.false _ c.node-left.ensures c.if-head-ge-SYMBOLS.false _ c.node-right.ensures c.if-other-ge-SYMBOLS.false c.if-head-other.true
+pub returns-in-Variable-head_of-clause-answered : goal.returns-in-Variable-head_of-clause-answered
+returns-in-Variable-head_of-clause-answered c = right_binds _ _ _ _ _ _ c.requires c.if-s-t.false _ c.node-left.ensures c.in_default.ensures.1 _ c.node-right.ensures c.in-Variable-head_of.ensures.1 c.bind-in-Variable-head_of.result
+    (rw c.in-Variable-head_of.ensures.0 at c.bind-in-Variable-head_of.ensures.answered)
 
 pub returns-then-left-right-clause-answered : goal.returns-then-left-right-clause-answered
-returns-then-left-right-clause-answered c = counts_clash _ _ _ _ _ _ c.requires c.if-s-t.false _ c.node-left.ensures c.if-head-ge-SYMBOLS.false _ c.node-right.ensures c.if-other-ge-SYMBOLS.false c.if-head-other.false
-    c.if-left-right.true
+returns-then-left-right-clause-answered c = heads_clash _ _ _ _ _ _ c.requires c.if-s-t.false _ c.node-left.ensures c.in_default.ensures.1 _ c.node-right.ensures c.in_default-head_of.ensures.1 c.if-left-right.true
+
+pub returns-then-left-right-2-clause-answered : goal.returns-then-left-right-2-clause-answered
+returns-then-left-right-2-clause-answered c = counts_clash _ _ _ _ _ _ c.requires c.if-s-t.false _ c.node-left.ensures c.in_default.ensures.1 _ c.node-right.ensures c.in_default-head_of.ensures.1 c.if-left-right.false
+    c.if-left-right-2.true
 
 pub returns-clause-answered : goal.returns-clause-answered
-returns-clause-answered c = parts_are _ _ _ _ _ _ c.requires c.if-s-t.false _ c.node-left.ensures c.if-head-ge-SYMBOLS.false _ c.node-right.ensures c.if-other-ge-SYMBOLS.false c.if-head-other.false c.if-left-right.false
+returns-clause-answered c = parts_are _ _ _ _ _ _ c.requires c.if-s-t.false _ c.node-left.ensures c.in_default.ensures.1 _ c.node-right.ensures c.in_default-head_of.ensures.1 c.if-left-right.false c.if-left-right-2.false

@@ -8,7 +8,7 @@ pub returns-then-node-eq0 : goal.returns-then-node-eq0
 returns-then-node-eq0 c = sought_free c.requires _ c.loop-cell.invariant c.if-node-eq0.true
 
 pub returns-then-same : goal.returns-then-same
-returns-then-same c = sought_met c.requires _ c.loop-cell.invariant c.if-node-eq0.false c.same.ensures c.if-same.true
+returns-then-same c = sought_met c.requires _ c.loop-cell.invariant c.if-node-eq0.false (rw (c.of.ensures, c.span_at-met.ensures) at c.same.ensures) c.if-same.true
 
 pub loop-cell-preserved : goal.loop-cell-preserved
-loop-cell-preserved c = sought_on c.requires _ c.loop-cell.invariant c.if-node-eq0.false c.same.ensures c.if-same.false c.turn.ensures.0 c.turn.ensures.1
+loop-cell-preserved c = sought_on c.requires _ c.loop-cell.invariant c.if-node-eq0.false (rw (c.of.ensures, c.span_at-met.ensures) at c.same.ensures) c.if-same.false c.turn.ensures.0 c.turn.ensures.1

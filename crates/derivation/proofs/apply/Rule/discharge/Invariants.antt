@@ -1,7 +1,7 @@
 use Rattle.state.specs.Records.{fact_rows, fact_feet}
 use mathlib.Core.Path.{◌≡◌}
-use lib.ListN.{length, replicate}
-use Rattle.rules.specs.Limits.{TERMS, VARIABLEWORDS}
+use lib.ListN.{replicate}
+use Rattle.rules.specs.Limits.{TERMS}
 use Rattle.terms.specs.Lent.{SameTables}
 use Rattle.referring.specs.Sources.{source_names}
 use Rattle.derivation.specs.Applying.{UsesRule}
@@ -16,7 +16,6 @@ invariant-loop-k l =
       cells : l.k-iterator.iter.cells.now ≡ l.cells;
       tables : SameTables s t;
       memo : l.memo ≡ replicate TERMS 0;
-      used : length l.used ≡ VARIABLEWORDS;
       left : (g : UsesRule l.source s l.self.fact l.cells l.self.bound.now) →
           Left (source_names l.source) (fact_rows l.source.records.now) (fact_feet l.source.records.now) l.source.lists.now l.source.reader.n s.index.now s.words.now s.mark
           l.self.fact l.cells l.self.bound.now

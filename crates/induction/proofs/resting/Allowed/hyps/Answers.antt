@@ -1,20 +1,19 @@
-use mathlib.Core.Path.{ap}
-use mathlib.Core.Bool.{not}
-use borrow.Author.Tests.{not-true, not-false}
-use Rattle.induction.proofs.Allowed.{allows_start, allowing_here, allowing_not, allowing_again, allowing_done}
+use Rattle.std.proofs.Common.{◌∙◌, ap, sym, rules, tests}
+use Rattle.std.specs.Prelude.{Bool, ℕ}
+use Rattle.std.proofs.lemmas.Iterator.{YieldsList-from_slice}
+use Rattle.std.proofs.lemmas.Iterator.Search.{all_from_yields_List}
+use Rattle.rules.specs.Find.{all}
+use Rattle.cells.specs.Chains.{serves_from_slice, all_elements}
+use Rattle.induction.proofs.Allowed.{asked, hyps_are, hyps_there}
 use Rattle.induction.proofs.resting.Allowed.hyps.Goals as goal
 
-pub loop-h-init : goal.loop-h-init
-loop-h-init c = allows_start c.hyps-h-items.ensures
-
-pub hyp-requires : goal.hyp-requires
-hyp-requires c = (c.requires.0, allowing_here (c.loop-h.invariant c.requires.0 c.requires.1) c.loop-h-test.true)
-
-pub returns-then-not-hyp : goal.returns-then-not-hyp
-returns-then-not-hyp c = λ g. allowing_not (c.loop-h.invariant g c.requires.1) c.loop-h-test.true c.hyp.result (c.hyp.ensures g) (not-true _ (ap not c.if-not-hyp.true))
-
-pub loop-h-preserved : goal.loop-h-preserved
-loop-h-preserved c = λ g l. allowing_again (c.loop-h.invariant g l) c.loop-h-test.true c.hyp.result (c.hyp.ensures g) (not-false _ (ap not c.if-not-hyp.false))
+pub all-requires-clause-callable : goal.all-requires-clause-callable
+all-requires-clause-callable c = serves_from_slice (λ x q r. search (rules, tests))
+    (λ x k l e a b d f g h. (c.requires.0, rw (sym e, c.iter.ensures.rest) (hyps_there c.requires.0 _ c.requires.1 c.hyps-hyps.ensures k (rw c.iter.ensures.rest at l))))
 
 pub returns : goal.returns
-returns c = λ g. allowing_done (c.loop-h.invariant g c.requires.1) c.loop-h-test.false
+returns c = λ g.
+    let p : ℕ → Bool = asked g c.args.i c.requires.1 in
+    all_from_yields_List p _ _ _ c.all.ensures.ran (YieldsList-from_slice c.hyps-hyps.result.now c.iter.ensures.rest) (λ x b q k. search (rules, tests, g))
+    ∙ all_elements p c.hyps-hyps.result.now
+    ∙ ap (all p) (hyps_are g c.args.i c.requires.1 c.hyps-hyps.ensures)

@@ -1,4 +1,4 @@
-use mathlib.Core.Path.{refl, sym}
+use mathlib.Core.Path.{sym}
 use native.Mathlib.Omega.{arith}
 use lib.Seq.{length-take-le}
 use Rattle.std.proofs.lemmas.Result.{err_from_is_err_and}
@@ -32,12 +32,9 @@ pub variables-requires : goal.variables-requires
 variables-requires c = turn_known c.requires.turning c.requires.r_lt_rules.0
 
 pub case_vars-requires : goal.case_vars-requires
-case_vars-requires c = (
-  turn_case c.requires.turning c.requires.r_lt_rules.0 c.rule_name-from.result c.rule_name-from.ensures c.find_case.result c.find_case.ensures c.in-Some.is
-      c.variables.ensures,
-  c.requires.turning.taken_long,
-  refl,
-)
+case_vars-requires c =
+    turn_case c.requires.turning c.requires.r_lt_rules.0 c.rule_name-from.result c.rule_name-from.ensures c.find_case.result c.find_case.ensures c.in-Some.is
+    c.variables.ensures
 
 pub returns-in_err-i-clause-turned_as : goal.returns-in_err-i-clause-turned_as
 returns-in_err-i-clause-turned_as c = λ g. let p = err_from_is_err_and c.from_residual.result c.from_residual.ensures.1 in
@@ -49,7 +46,6 @@ slice_bounds-list-end c = omega (
   arith,
   turn_few c.requires.turning c.requires.r_lt_rules.0 c.rule_name-from.result c.rule_name-from.ensures c.find_case.result c.find_case.ensures
       c.in-Some.is c.variables.ensures,
-  c.case_vars.auto.list,
 )
 
 pub slice_bounds-own-end : goal.slice_bounds-own-end
@@ -59,7 +55,6 @@ slice_bounds-own-end c = sym
       arith,
       turn_few c.requires.turning c.requires.r_lt_rules.0 c.rule_name-from.result c.rule_name-from.ensures c.find_case.result c.find_case.ensures
           c.in-Some.is c.variables.ensures,
-      c.case_vars.auto.list,
     )))
 
 pub with_case-requires-clause-having : goal.with_case-requires-clause-having
@@ -70,7 +65,7 @@ with_case-requires-clause-having c =
 pub returns-clause-turned_as : goal.returns-clause-turned_as
 returns-clause-turned_as c = λ g.
     turn_judged g c.requires.r_lt_rules.0 c.rule_name-from.result c.rule_name-from.ensures c.find_case.result c.find_case.ensures c.in-Some.is
-    c.variables.ensures c.in_ok-i.ensures c.case_vars.auto.taken _ _ _ _
+    c.variables.ensures c.in_ok-i.ensures _ _ _ _
     (c.with_case.ensures.judged_as
     (turn_having g c.requires.r_lt_rules.0 c.rule_name-from.result c.rule_name-from.ensures c.find_case.result c.find_case.ensures c.in-Some.is
     c.variables.ensures c.in_ok-i.ensures c.requires.r_lt_rules.2))

@@ -1,4 +1,4 @@
-use mathlib.Core.Path.{refl, ◌∙◌}
+use mathlib.Core.Path.{refl}
 use native.Mathlib.Omega.{arith}
 use Rattle.terms.specs.Laws.Seen.{seen_none}
 use Rattle.inversion.proofs.InvertTaken.{taking_begins, taking_on, taking_ends}
@@ -8,13 +8,10 @@ pub visit-requires-clause-seen : goal.visit-requires-clause-seen
 visit-requires-clause-seen c = seen_none _ _ _ _ _ refl
 
 pub loop-h-init : goal.loop-h-init
-loop-h-init c = taking_begins refl c.visit.ensures c.visit-2.ensures (c.visit-2.auto.seen ∙ c.visit.auto.seen) (c.visit-2.auto.set ∙ c.visit.auto.set)
+loop-h-init c = taking_begins refl c.visit.ensures c.visit-2.ensures
 
 pub loop-h-preserved : goal.loop-h-preserved
-loop-h-preserved c = taking_on c.loop-h.invariant c.requires.0 c.requires.3 c.loop-h-test.true c.mention.auto.seen c.mention.auto.set (rw c.facts-facts.ensures at c.mention.ensures)
+loop-h-preserved c = taking_on c.loop-h.invariant c.requires.0 c.requires.3 c.loop-h-test.true (rw c.facts-facts.ensures at c.mention.ensures)
 
-pub returns-clause-taken : goal.returns-clause-taken
-returns-clause-taken c = taking_ends c.loop-h.invariant (omega (arith, c.loop-h-test.false))
-
-pub returns-clause-long : goal.returns-clause-long
-returns-clause-long c = c.loop-h.invariant.long_set
+pub returns : goal.returns
+returns c = taking_ends c.loop-h.invariant (omega (arith, c.loop-h-test.false))

@@ -1,34 +1,31 @@
-use mathlib.Core.Path.{refl, sym, ◌∙◌}
 use native.Mathlib.Omega.{arith}
-use Rattle.state.specs.VarLaws.{vars_long, var_sort_is}
-use Rattle.casework.specs.Laws.Loops.{suit_none, suit_on, suit_off, suit_over}
-use Rattle.inversion.proofs.InvertNames.{known_var, rule_sort_lem}
-use borrow.Author.Tests.{eq-eqb, ne_eqb}
+use Rattle.std.proofs.Common.{rules, tests, true, false, ◌∙◌}
+use Rattle.std.proofs.lemmas.List.{get_or_default}
+use Rattle.std.proofs.lemmas.Iterator.{YieldsList-from_slice, cases_from_all}
+use Rattle.std.proofs.lemmas.Iterator.Consumers.{YieldsList-from_enumerate}
+use Rattle.std.proofs.lemmas.Iterator.Adapters.{serves_from_places}
+use Rattle.state.specs.VarLaws.{vars_long}
+use Rattle.casework.specs.Laws.Loops.{suit_none}
+use Rattle.inversion.proofs.InvertNames.{known_var}
+use Rattle.inversion.proofs.InvertSuits.{place_of, Says, suit_is}
+use borrow.Author.Tests.{ne_eqb}
 use Rattle.inversion.proofs.inverting.RuleVars.suits.Goals as goal
 
+pub all-requires-clause-callable : goal.all-requires-clause-callable
+all-requires-clause-callable c =
+    serves_from_places (YieldsList-from_enumerate (YieldsList-from_slice c.args.list.now cc) cc) (λ x q r. search (rules, tests))
+    (λ x k l e.
+    let p = place_of c.args.list.now (x.0, x.1.now) k l e in (
+      λ a b d f i j m n o. (vars_long c.requires.1.2, rw (p.1 ∙ get_or_default c.args.list.now x.0 x.1.now 0 p.0) (c.requires.2 x.0 p.0)),
+      λ a b d f i j m n o s t. known_var c.requires.0 (omega (arith, p.0, c.if-list-self.true)),
+    ))
+
 pub returns-then-list-self : goal.returns-then-list-self
-returns-then-list-self c = λ g vs count h. suit_none vs _ _ g.many c.if-list-self.true
+returns-then-list-self c = λ g vs count h.
+    suit_is g h c.args.list.now c.if-list-self.true c.all.result
+    (cases_from_all _ _ _ (Says c.args.self.now.rules.vars.now c.args.vars.now c.args.self.now.rule true) (Says c.args.self.now.rules.vars.now c.args.vars.now c.args.self.now.rule false) c.all.ensures.ran
+    (YieldsList-from_enumerate (YieldsList-from_slice c.args.list.now cc) cc) (λ x q k. (search (rules, tests), search (rules, tests)))
+    (λ x q k. search (rules, tests)))
 
-pub var_sort-requires : goal.var_sort-requires
-var_sort-requires c = (vars_long c.requires.1.2, c.requires.2 c.loop-k.k c.loop-k-test.true)
-
-pub variable_sort-requires : goal.variable_sort-requires
-variable_sort-requires c = known_var c.requires.0 (omega (arith, c.loop-k.invariant.1, c.loop-k-test.true))
-
-pub returns-then-var_sort-variable_sort : goal.returns-then-var_sort-variable_sort
-returns-then-var_sort-variable_sort c = λ g vs count h. sym
-    (c.loop-k.invariant.2 g vs count h ∙ suit_off vs _ _ _ c.loop-k-test.true (omega (arith, c.loop-k.invariant.1, g.many, c.loop-k-test.true))
-    (c.var_sort.ensures ∙ var_sort_is h _) (rule_sort_lem g (omega (arith, c.loop-k.invariant.1, c.loop-k-test.true)) c.variable_sort.ensures)
-    (sym (ne_eqb _ _ c.if-var_sort-variable_sort.true)) refl)
-
-pub loop-k-preserved : goal.loop-k-preserved
-loop-k-preserved c = (
-  omega arith,
-  c.loop-k.invariant.1,
-  λ g vs count h. c.loop-k.invariant.2 g vs count h ∙ suit_on vs _ _ _ c.loop-k-test.true
-      (omega (arith, c.loop-k.invariant.1, g.many, c.loop-k-test.true)) (c.var_sort.ensures ∙ var_sort_is h _)
-      (rule_sort_lem g (omega (arith, c.loop-k.invariant.1, c.loop-k-test.true)) c.variable_sort.ensures) (sym (eq-eqb _ _ c.if-var_sort-variable_sort.false)) refl,
-)
-
-pub returns : goal.returns
-returns c = λ g vs count h. sym (c.loop-k.invariant.2 g vs count h ∙ suit_over vs _ _ _ c.loop-k-test.false (omega (arith, c.loop-k.invariant.1, g.many, c.loop-k-test.false)))
+pub returns-else-list-self : goal.returns-else-list-self
+returns-else-list-self c = λ g vs count h. ne_eqb _ _ c.if-list-self.false ∙ suit_none vs _ _ g.many c.if-list-self.false

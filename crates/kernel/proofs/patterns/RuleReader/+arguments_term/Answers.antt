@@ -20,7 +20,7 @@ pub arguments-input-sort-requires : goal.arguments-input-sort-requires
 arguments-input-sort-requires t c =
     let steps = c.in-Some.ensures.steps in
     let h = here c.loop-k.invariant.cells steps.0 in
-    rw (steps.1, c.loop-k.invariant.going.same.known) (argument_known c.loop-k.invariant.going.arguments c.requires h)
+    rw steps.1 (argument_known c.loop-k.invariant.going.arguments c.requires h)
 
 pub arguments-term-requires : goal.arguments-term-requires
 arguments-term-requires t c =
@@ -38,7 +38,7 @@ arguments-returns-in_err-term-clause-read t c =
     let h = here c.loop-k.invariant.cells steps.0 in
     let known = c.loop-k.invariant.going.same.known in
     λ T R zs s y b p. rw (handed c.from_residual.result c.from_residual.ensures)
-    (arguments_stop c.loop-k.invariant.going.arguments c.requires h _ (rw (steps.1, known) at c.input-sort.ensures.sort) _ _
+    (arguments_stop c.loop-k.invariant.going.arguments c.requires h _ (rw steps.1 at c.input-sort.ensures.sort) _ _
     (λ T R y ys s r b. c.in_err-term.ensures.read T R y ys (rw known s) (rw known r) (rw known b)) T R zs s y b p)
 
 pub arguments-loop-k-preserved : goal.arguments-loop-k-preserved
@@ -50,7 +50,7 @@ arguments-loop-k-preserved t c =
       cells = h.same;
       going = record {
         same = same_on c.loop-k.invariant.going.same c.in_ok-term.ensures.same_tables;
-        arguments = rw steps.2 (arguments_on c.loop-k.invariant.going.arguments c.requires h _ (rw (steps.1, known) at c.input-sort.ensures.sort)
+        arguments = rw steps.2 (arguments_on c.loop-k.invariant.going.arguments c.requires h _ (rw steps.1 at c.input-sort.ensures.sort)
             (λ T R y ys s r b. rw known at (c.in_ok-term.ensures.read T R y ys (rw known s) (rw known r) (rw known b))));
       };
     }

@@ -8,12 +8,12 @@ use Rattle.reading.proofs.TermArguments.{known_symbol, symbol_small, going_begin
 use Rattle.reading.proofs.TermHeads.{rest_fewer}
 use Rattle.reading.proofs.TermBehind.{opens, rest_items, behind_stops, behind_narrow, behind_length, behind_node, behind_typed}
 use Rattle.reading.specs.Laws.Walks.{first_some}
-use Rattle.reading.proofs.TermItems.{atom_given, term_atomic, item_list, list_items, term_compounds}
+use Rattle.reading.proofs.TermItems.{atom_given, term_atomic, item_list, item_part, list_items, term_compounds}
 use Rattle.reading.proofs.reader.Reader.+arguments_compound_term.Goals as goal
 use Rattle.reading.proofs.reader.Reader.+arguments_compound_term.Goals.{arguments-then-not-fits-via-then-not-fits, arguments-then-not-fits-via-else-not-fits+then-k-count}
 
 pub arguments-arity-count-requires : goal.arguments-arity-count-requires
-arguments-arity-count-requires t c = known_symbol c.requires.0.reads c.requires.1
+arguments-arity-count-requires t c = rw c.symbol_table-known.ensures (known_symbol c.requires.0.reads c.requires.1)
 
 pub arguments-put_head-requires : goal.arguments-put_head-requires
 arguments-put_head-requires t c = (c.requires.2, symbol_small c.requires.0.reads c.requires.1)
@@ -23,32 +23,36 @@ arguments-loop-item-init t c = rw (c.into_iter-item-iterator.ensures.into_iter_g
   cells = refl;
   same = (refl, refl);
   going = λ g. going_begins g.reads g.holds c.args.c c.arity-count.result _ c.args.node.now c.requires.1 c.requires.2 c.put_head.ensures
-      (c.arity-count.ensures g.S.theory _ _ _ g.reads.spelling.held c.requires.1);
+      ((rw c.symbol_table-known.ensures at c.arity-count.ensures) g.S.theory _ _ _ g.reads.spelling.held c.requires.1);
 }
 
 pub arguments-takes-fits-requires : goal.arguments-takes-fits-requires
-arguments-takes-fits-requires t c = going_inputs (c.loop-item.invariant.going c.requires.0)
+arguments-takes-fits-requires t c = rw c.symbol_table-known.ensures (going_inputs (c.loop-item.invariant.going c.requires.0))
 
 pub arguments-term-requires : goal.arguments-term-requires
-arguments-term-requires t c = rw (here c.loop-item.invariant.cells c.in-Some.ensures.steps).is (omega (arith, part_most c.args.cells.now c.loop-item.item-iterator.at, c.decreases), going_item (c.loop-item.invariant.going c.requires.0) (here c.loop-item.invariant.cells c.in-Some.ensures.steps).inside)
+arguments-term-requires t c =
+    let h = here c.loop-item.invariant.cells c.in-Some.ensures.steps in
+    (omega (arith, part_most h, c.decreases), going_item (c.loop-item.invariant.going c.requires.0) h)
 
 pub arguments-returns-in_err-typed-clause-arguments_as : goal.arguments-returns-in_err-typed-clause-arguments_as
 arguments-returns-in_err-typed-clause-arguments_as t c = λ g. let p = err_from_is_err_and c.from_residual.result c.from_residual.ensures.1 in
-    rw (p.1, p.2) (going_stops (c.loop-item.invariant.going g) (here c.loop-item.invariant.cells c.in-Some.ensures.steps).inside _ _ _ _ _ (rw (here c.loop-item.invariant.cells c.in-Some.ensures.steps).is at c.in_err-typed.ensures.typed_as))
+    rw (p.1, p.2) (going_stops (c.loop-item.invariant.going g) (here c.loop-item.invariant.cells c.in-Some.ensures.steps) c.in_err-typed.ensures.typed_as)
 
 pub arguments-put_argument-requires : goal.arguments-put_argument-requires
-arguments-put_argument-requires t c = going_put (c.loop-item.invariant.going c.requires.0) (here c.loop-item.invariant.cells c.in-Some.ensures.steps).inside _ _ _ _ _ (rw (here c.loop-item.invariant.cells c.in-Some.ensures.steps).is at c.in_ok-typed.ensures.typed_as)
+arguments-put_argument-requires t c = going_put (c.loop-item.invariant.going c.requires.0) (here c.loop-item.invariant.cells c.in-Some.ensures.steps) c.in_ok-typed.ensures.typed_as
 
 pub arguments-overflow_add-k : goal.arguments-overflow_add-k
 arguments-overflow_add-k t c = omega (arith, going_high (c.loop-item.invariant.going c.requires.0), c.well_formed.1.1.0)
 
 pub arguments-loop-item-preserved : goal.arguments-loop-item-preserved
-arguments-loop-item-preserved t c = record {
-  cells = (here c.loop-item.invariant.cells c.in-Some.ensures.steps).same;
-  same = (c.term.ensures.same_tables.0 ∙ c.loop-item.invariant.same.0, c.term.ensures.same_tables.1 ∙ c.loop-item.invariant.same.1);
-  going = λ g. going_on (c.loop-item.invariant.going g) (here c.loop-item.invariant.cells c.in-Some.ensures.steps).inside _ _ _ _ _ (rw (here c.loop-item.invariant.cells c.in-Some.ensures.steps).is at c.in_ok-typed.ensures.typed_as)
-      c.put_argument.new.node c.put_argument.ensures (c.takes-fits.ensures g.S.theory _ _ _ (c.loop-item.invariant.going g).reads.spelling.held (c.loop-item.invariant.going g).known (c.loop-item.invariant.going g).counted) refl (here c.loop-item.invariant.cells c.in-Some.ensures.steps).behind;
-}
+arguments-loop-item-preserved t c =
+    let h = here c.loop-item.invariant.cells c.in-Some.ensures.steps in
+    record {
+      cells = h.same;
+      same = (c.term.ensures.same_tables.0 ∙ c.loop-item.invariant.same.0, c.term.ensures.same_tables.1 ∙ c.loop-item.invariant.same.1);
+      going = λ g. going_on (c.loop-item.invariant.going g) h c.in_ok-typed.ensures.typed_as c.put_argument.new.node c.put_argument.ensures
+          ((rw c.symbol_table-known.ensures at c.takes-fits.ensures) g.S.theory _ _ _ (c.loop-item.invariant.going g).reads.spelling.held (c.loop-item.invariant.going g).known (c.loop-item.invariant.going g).counted) refl;
+    }
 
 pub arguments-overflow_add-result : goal.arguments-overflow_add-result
 arguments-overflow_add-result t c = omega (arith, going_high (c.loop-item.invariant.going c.requires.0), c.well_formed.1.1.0)
@@ -62,9 +66,6 @@ arguments-returns-then-not-fits-clause-arguments_as t c = λ g. going_misfits (c
 
 pub arguments-returns-clause-arguments_as : goal.arguments-returns-clause-arguments_as
 arguments-returns-clause-arguments_as t c = λ g. going_ends (c.loop-item.invariant.going g) (omega (arith, (over c.loop-item.invariant.cells c.in-None.ensures.steps))) c.if-not-fits.false c.if-k-count.false
-
-pub compound-constructor_first-requires : goal.compound-constructor_first-requires
-compound-constructor_first-requires t c = opens c.requires
 
 pub compound-returns-in_err-c-clause-typed_as : goal.compound-returns-in_err-c-clause-typed_as
 compound-returns-in_err-c-clause-typed_as t c = λ g. let p = err_from_is_err_and c.from_residual.result c.from_residual.ensures.1 in
@@ -96,7 +97,7 @@ compound-slice_bounds-keep_typed-end t c = behind_length c.requires.reads (c.in_
     c.arguments.auto.node
 
 pub compound-output-requires : goal.compound-output-requires
-compound-output-requires t c = known_symbol c.requires.reads (c.in_ok-c.ensures (opens c.requires)).known
+compound-output-requires t c = rw c.symbol_table.ensures (known_symbol c.requires.reads (c.in_ok-c.ensures (opens c.requires)).known)
 
 pub compound-keep_typed-requires : goal.compound-keep_typed-requires
 compound-keep_typed-requires t c = behind_node c.requires.reads (c.in_ok-c.ensures (opens c.requires)) _ _ _ _ c.in_ok-len.ensures.arguments_as
@@ -104,7 +105,7 @@ compound-keep_typed-requires t c = behind_node c.requires.reads (c.in_ok-c.ensur
 pub compound-returns-clause-typed_as : goal.compound-returns-clause-typed_as
 compound-returns-clause-typed_as t c = λ g. let o = c.in_ok-c.ensures (opens g) in
     behind_typed g.reads o _ _ _ _ c.in_ok-len.ensures.arguments_as _ _ _ c.output.result c.keep_typed.result
-    (c.output.ensures g.S.theory _ _ _ g.reads.spelling.held o.known) c.keep_typed.ensures.typed_as
+    ((rw c.symbol_table.ensures at c.output.ensures) g.S.theory _ _ _ g.reads.spelling.held o.known) c.keep_typed.ensures.typed_as
 
 pub term-item_at-requires : goal.term-item_at-requires
 term-item_at-requires t c = first_some c.requires.holds
@@ -127,11 +128,11 @@ term-slice_bounds-compound-end t c = (item_list c.requires c.item_at.ensures c.i
 pub term-compound-requires : goal.term-compound-requires
 term-compound-requires t c = (
   omega (arith, (item_list c.requires c.item_at.ensures c.in-List.is).shorter, c.decreases),
-  list_items c.requires c.item_at.ensures c.in-List.is,
+  list_items c.requires (item_part c.requires c.item_at.ensures c.in-List.is),
 )
 
 pub term-returns-in-Atom-clause-typed_as : goal.term-returns-in-Atom-clause-typed_as
 term-returns-in-Atom-clause-typed_as t c = λ g. term_atomic g c.item_at.ensures c.in-Atom.is _ _ _ c.atomic.result c.atomic.ensures.typed_as
 
 pub term-returns-in-List-clause-typed_as : goal.term-returns-in-List-clause-typed_as
-term-returns-in-List-clause-typed_as t c = λ g. term_compounds g c.item_at.ensures c.in-List.is _ _ _ c.compound.result c.compound.ensures.typed_as
+term-returns-in-List-clause-typed_as t c = λ g. term_compounds g (item_part g c.item_at.ensures c.in-List.is) _ _ _ c.compound.result c.compound.ensures.typed_as

@@ -1,6 +1,4 @@
 use mathlib.Core.Path.{◌≡◌}
-use lib.ListN.{length}
-use Rattle.rules.specs.Limits.{FACTWORDS}
 use Rattle.std.proofs.Common.{Bool}
 use Rattle.rules.specs.State.{Fact}
 use Rattle.state.specs.Records.{fact_rows}
@@ -14,6 +12,5 @@ invariant-loop-item o l =
     record {
       cells : l.item-iterator.cells.now ≡ l.cells;
       walking : Walking l.self.text.now l.cells l.item-iterator.at;
-      wide : length l.set ≡ FACTWORDS;
       hyping : (g : FactsItems l.self.text.now (fact_rows l.facts) l.self.n l.cells) (p : Fact → Bool) → Tests o.F.Fn l.passes l.facts g.S p → Hyping p g.S g.xs l.self.text.now l.cells l.set l.item-iterator.at;
     }

@@ -2,66 +2,51 @@ use mathlib.Core.Path.{refl}
 use native.Mathlib.Omega.{arith}
 use Rattle.std.proofs.lemmas.Result.{err_from_is_err_and}
 use Rattle.reading.proofs.TermBehind.{opens, rest_items, behind_stops, behind_narrow, behind_length, behind_node, behind_kept, behind_full}
-use Rattle.reading.specs.Laws.Walks.{first_some}
-use Rattle.reading.proofs.TermItems.{item_list, list_items, judgment_atom, judgment_opens, judgment_unopened}
+use Rattle.sexp.specs.Each.{first_atom, first_list}
+use Rattle.reading.proofs.TermItems.{list_items, judgment_atom, judgment_opens, judgment_unopened}
 use Rattle.reading.proofs.reader.Reader.judgment.Goals as goal
 
-pub item_at-requires : goal.item_at-requires
-item_at-requires c = first_some c.requires.holds
-
 pub returns-in_default-clause-read_as : goal.returns-in_default-clause-read_as
-returns-in_default-clause-read_as c = λ g. judgment_atom g c.item_at.ensures c.in_default.is
-
-pub offset_bounds-cells-a : goal.offset_bounds-cells-a
-offset_bounds-cells-a c = let l = item_list c.requires c.item_at.ensures c.in-List.is in omega (arith, l.low, l.high, c.well_formed.1.1.0)
-
-pub slice_bounds-inner-count : goal.slice_bounds-inner-count
-slice_bounds-inner-count c = (item_list c.requires c.item_at.ensures c.in-List.is).low
-
-pub slice_bounds-inner-start : goal.slice_bounds-inner-start
-slice_bounds-inner-start c = (item_list c.requires c.item_at.ensures c.in-List.is).low
-
-pub slice_bounds-inner-end : goal.slice_bounds-inner-end
-slice_bounds-inner-end c = (item_list c.requires c.item_at.ensures c.in-List.is).high
+returns-in_default-clause-read_as c = λ g. judgment_atom g (first_atom g.holds c.in_default.ensures).1
 
 pub predicate_first-requires : goal.predicate_first-requires
-predicate_first-requires c = opens (list_items c.requires c.item_at.ensures c.in-List.is)
+predicate_first-requires c = opens (list_items c.requires (first_list c.requires.holds c.in-Some.ensures))
 
 pub returns-in_err-p-clause-read_as : goal.returns-in_err-p-clause-read_as
 returns-in_err-p-clause-read_as c = λ g. let p = err_from_is_err_and c.from_residual.result c.from_residual.ensures.1 in
-    rw (p.1, p.2) (judgment_unopened g c.item_at.ensures c.in-List.is c.in_err-p.ensures)
+    rw (p.1, p.2) (judgment_unopened g (first_list g.holds c.in-Some.ensures) c.in_err-p.ensures)
 
 pub slice_bounds-arguments-count : goal.slice_bounds-arguments-count
-slice_bounds-arguments-count c = (judgment_opens c.requires c.item_at.ensures c.in-List.is c.in_ok-p.ensures).some
+slice_bounds-arguments-count c = (judgment_opens c.requires (first_list c.requires.holds c.in-Some.ensures) c.in_ok-p.ensures).some
 
 pub slice_bounds-arguments-start : goal.slice_bounds-arguments-start
-slice_bounds-arguments-start c = (judgment_opens c.requires c.item_at.ensures c.in-List.is c.in_ok-p.ensures).some
+slice_bounds-arguments-start c = (judgment_opens c.requires (first_list c.requires.holds c.in-Some.ensures) c.in_ok-p.ensures).some
 
 pub arguments-requires : goal.arguments-requires
-arguments-requires c = let o = judgment_opens c.requires c.item_at.ensures c.in-List.is c.in_ok-p.ensures in
+arguments-requires c = let o = judgment_opens c.requires (first_list c.requires.holds c.in-Some.ensures) c.in_ok-p.ensures in
     (rest_items c.requires.reads o, o.known, refl)
 
 pub returns-in_err-len-clause-read_as : goal.returns-in_err-len-clause-read_as
 returns-in_err-len-clause-read_as c = λ g. let p = err_from_is_err_and c.from_residual-in_err-len.result c.from_residual-in_err-len.ensures.1 in
-    rw (p.1, p.2) (behind_stops g.reads (judgment_opens g c.item_at.ensures c.in-List.is c.in_ok-p.ensures) _ _ _ _ _ c.in_err-len.ensures.arguments_as)
+    rw (p.1, p.2) (behind_stops g.reads (judgment_opens g (first_list g.holds c.in-Some.ensures) c.in_ok-p.ensures) _ _ _ _ _ c.in_err-len.ensures.arguments_as)
 
 pub slice_bounds-node-end : goal.slice_bounds-node-end
 slice_bounds-node-end c = omega (
   arith,
-  behind_narrow c.requires.reads (judgment_opens c.requires c.item_at.ensures c.in-List.is c.in_ok-p.ensures) _ _ _ _ c.in_ok-len.ensures.arguments_as,
+  behind_narrow c.requires.reads (judgment_opens c.requires (first_list c.requires.holds c.in-Some.ensures) c.in_ok-p.ensures) _ _ _ _ c.in_ok-len.ensures.arguments_as,
   c.arguments.auto.node,
 )
 
 pub slice_bounds-keep-end : goal.slice_bounds-keep-end
-slice_bounds-keep-end c = behind_length c.requires.reads (judgment_opens c.requires c.item_at.ensures c.in-List.is c.in_ok-p.ensures) _ _ _ _ c.in_ok-len.ensures.arguments_as c.arguments.auto.node
+slice_bounds-keep-end c = behind_length c.requires.reads (judgment_opens c.requires (first_list c.requires.holds c.in-Some.ensures) c.in_ok-p.ensures) _ _ _ _ c.in_ok-len.ensures.arguments_as c.arguments.auto.node
 
 pub keep-requires : goal.keep-requires
-keep-requires c = let n = behind_node c.requires.reads (judgment_opens c.requires c.item_at.ensures c.in-List.is c.in_ok-p.ensures) _ _ _ _ c.in_ok-len.ensures.arguments_as in
+keep-requires c = let n = behind_node c.requires.reads (judgment_opens c.requires (first_list c.requires.holds c.in-Some.ensures) c.in_ok-p.ensures) _ _ _ _ c.in_ok-len.ensures.arguments_as in
     record { good = n.0; node = n.1 }
 
 pub returns-in_err-keep-clause-read_as : goal.returns-in_err-keep-clause-read_as
 returns-in_err-keep-clause-read_as c = λ g. let p = err_from_is_err_and c.from_residual-in_err-keep.result c.from_residual-in_err-keep.ensures.1 in
-    rw (p.1, p.2) (behind_full g.reads (judgment_opens g c.item_at.ensures c.in-List.is c.in_ok-p.ensures) _ _ _ _ c.in_ok-len.ensures.arguments_as c.in_err-keep.ensures.kept.says)
+    rw (p.1, p.2) (behind_full g.reads (judgment_opens g (first_list g.holds c.in-Some.ensures) c.in_ok-p.ensures) _ _ _ _ c.in_ok-len.ensures.arguments_as c.in_err-keep.ensures.kept.says)
 
 pub returns-clause-read_as : goal.returns-clause-read_as
-returns-clause-read_as c = λ g. behind_kept g.reads (judgment_opens g c.item_at.ensures c.in-List.is c.in_ok-p.ensures) _ _ _ _ c.in_ok-len.ensures.arguments_as c.in_ok-keep.ensures.kept.says
+returns-clause-read_as c = λ g. behind_kept g.reads (judgment_opens g (first_list g.holds c.in-Some.ensures) c.in_ok-p.ensures) _ _ _ _ c.in_ok-len.ensures.arguments_as c.in_ok-keep.ensures.kept.says

@@ -5,9 +5,6 @@ use Rattle.reading.proofs.reader.Reader.variable.Goals as goal
 pub head-requires : goal.head-requires
 head-requires c = (cons c.requires.0.x c.requires.0.ys, c.requires.0.holds)
 
-pub named-requires : goal.named-requires
-named-requires c = rw c.var_table.ensures c.requires.1
-
 pub returns-in_err-name : goal.returns-in_err-name
 returns-in_err-name c = λ vs x ys k h. rw c.from_residual.ensures (no_variable x ys (c.in_err-name.ensures (cons x ys) h) vs)
 

@@ -1,9 +1,6 @@
 use Rattle.kernel.proofs.Handed.{handed}
-use Rattle.referring.proofs.Referring.{bare_first, bare_no, bare_read, bare_asks}
+use Rattle.referring.proofs.Referring.{bare_no, bare_read, bare_asks}
 use Rattle.referring.proofs.source.Source.bare.Goals as goal
-
-pub earlier-requires : goal.earlier-requires
-earlier-requires c = bare_first c.requires.1
 
 pub returns-in_err-i : goal.returns-in_err-i
 returns-in_err-i c = λ m g p bs x. rw (handed c.from_residual.result c.from_residual.ensures, c.in_err-i.ensures.0) (bare_no g p bs x c.in_err-i.ensures.1)

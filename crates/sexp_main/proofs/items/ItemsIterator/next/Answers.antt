@@ -5,11 +5,8 @@ use Rattle.sexp_main.proofs.items.ItemsIterator.next.Goals as goal
 pub invariant_of-self : goal.invariant_of-self
 invariant_of-self c = record { held = front.after_atom (search rules) c.item_at.ensures c.args.self.now.held c.in-Atom.is }
 
-pub atom_end-requires : goal.atom_end-requires
-atom_end-requires c = front.atom_start (search rules) c.item_at.ensures c.args.self.now.held c.in-Atom.is
-
-pub slice_bounds-result-end : goal.slice_bounds-result-end
-slice_bounds-result-end c = (front.atom_end (search rules) c.item_at.ensures c.args.self.now.held c.in-Atom.is c.atom_end.ensures).1
+pub atom-requires : goal.atom-requires
+atom-requires c = front.atom_start (search rules) c.item_at.ensures c.args.self.now.held c.in-Atom.is
 
 pub offset_bounds-cells-end : goal.offset_bounds-cells-end
 offset_bounds-cells-end c = omega (arith, front.list_lies (search rules) c.item_at.ensures c.args.self.now.held c.in-List.is, c.well_formed)

@@ -1,18 +1,7 @@
 use mathlib.Core.Path.{refl}
-use Prim.Native.Nat.{◌*◌}
-use native.Mathlib.Omega.{arith}
-use lib.ListN.{length}
-use Rattle.terms.specs.Sets.{holds}
-use Rattle.state.specs.Members.{rising_few}
 use Rattle.state.proofs.Placed.{derived_put}
 use Rattle.state.proofs.Cells.{room_at, row_put, foot_put}
 use Rattle.state.proofs.board.Board.put_derived.Goals as goal
-
-pub room-requires : goal.room-requires
-room-requires c = (
-  c.requires.putting.entries,
-  omega (arith, rising_few (64 * length c.args.hyps.now) (holds c.args.hyps.now), c.count-many.ensures, c.requires.hyps_value),
-)
 
 pub append-requires : goal.append-requires
 append-requires c = room_at c.args.self.now.facts.now c.args.self.now.n.facts c.requires.putting.facts c.in_ok-end.ensures.0

@@ -2,8 +2,8 @@ use mathlib.Core.Path.{◌∙◌}
 use Rattle.terms.proofs.Skips.{args_symbol, args_variable}
 use Rattle.terms.proofs.patterns.Patterns.args_of.Goals as goal
 
-pub returns-then-head-lt-SYMBOLS : goal.returns-then-head-lt-SYMBOLS
-returns-then-head-lt-SYMBOLS c = c.arity_of.ensures ∙ args_symbol _ _ c.if-head-lt-SYMBOLS.true
+pub returns-in-Symbol : goal.returns-in-Symbol
+returns-in-Symbol c = rw c.in-Symbol.ensures.0 at (c.arity_of.ensures) ∙ args_symbol _ _ c.in-Symbol.ensures.1
 
-pub returns : goal.returns
-returns c = args_variable _ _ c.if-head-lt-SYMBOLS.false
+pub returns-in-Variable : goal.returns-in-Variable
+returns-in-Variable c = args_variable _ _ c.in-Variable.ensures.1

@@ -1,9 +1,9 @@
-use Rattle.std.proofs.Common.{◌∙◌}
-use Rattle.terms.proofs.MatchLists.{all_stays, all_hits}
+use Rattle.std.proofs.Common.{refl, sym}
+use Rattle.terms.proofs.MatchLists.{all_hits, all_stays}
 use Rattle.terms.proofs.patterns.Patterns.match_all.Goals as goal
 
-pub returns-then-match_terms : goal.returns-then-match_terms
-returns-then-match_terms c = all_hits _ _ _ _ c.args.terms.now.mark _ _ _ _ _ c.match_terms.ensures c.if-match_terms.true
+pub returns-then-is_some : goal.returns-then-is_some
+returns-then-is_some c = all_hits _ _ _ _ c.args.terms.now.mark _ _ _ _ c.match_terms.ensures (sym c.if-is_some.ensures)
 
 pub returns : goal.returns
-returns c = all_stays _ _ _ _ c.args.terms.now.mark _ _ _ _ _ c.match_terms.ensures c.if-match_terms.false _ (c.copy_from_slice-2.ensures.after ∙ c.copy_from_slice.ensures.after)
+returns c = all_stays _ _ _ _ c.args.terms.now.mark _ _ _ _ c.match_terms.ensures (sym c.if-is_some.ensures) _ refl

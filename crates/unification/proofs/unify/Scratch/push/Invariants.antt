@@ -1,5 +1,4 @@
-use Rattle.std.proofs.Common.{◌≡◌}
-use Rattle.unification.specs.Unify.{SameScratch}
+use Rattle.unification.specs.Unify.{SameScratch, KeptButPairs}
 use Rattle.unification.proofs.Piles.{Piling}
 use Rattle.unification.proofs.unify.Scratch.push.Given as goal
 
@@ -9,6 +8,6 @@ invariant-loop-word l =
     let y = l.self in
     record {
       same : SameScratch x y;
-      unchanged : (y.map.now ≡ x.map.now) × (y.memo.now ≡ x.memo.now) × (y.seen.now ≡ x.seen.now);
+      unchanged : KeptButPairs x y;
       piling : Piling l.left l.right x.pairs.now x.waiting y.pairs.now y.waiting l.word-iterator.a.rest.now l.word-iterator.b.rest.now;
     }

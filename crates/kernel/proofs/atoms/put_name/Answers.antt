@@ -1,8 +1,0 @@
-use mathlib.Core.Path.{ap}
-use Prim.Native.Nat.{ℕ}
-use native.Mathlib.Numerals.{add-one}
-use lib.ListN.{set}
-use Rattle.kernel.proofs.atoms.put_name.Goals as goal
-
-pub returns : goal.returns
-returns c = ap (λ (k : ℕ). set (set c.args.table.now c.args.at c.args.name.from) k c.args.name.end) (add-one c.args.at)
