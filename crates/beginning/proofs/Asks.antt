@@ -1,11 +1,12 @@
 -- The first text that fails a test, and what the definition answers by questions 2 and 3. Assumes nothing.
 use mathlib.Core.Path.{◌≡◌, refl, sym, ap, ◌∙◌, subst}
 use mathlib.Core.Bool.{Bool, true, false}
-use mathlib.Core.List.{List}
-use Prim.Native.Nat.{ℕ, ◌≤◌}
+use mathlib.Core.List.{List, [], ◌∷◌}
+use Prim.Native.Nat.{ℕ, zero, suc, ◌+◌, ◌<◌, ◌≤◌}
 use native.Mathlib.Omega.{arith}
 use borrow.Author.Tests.{leb-true}
 use lib.ListN.{length}
+use Rattle.std.proofs.Common.{Bor, slice_index_or}
 use Rattle.rules.specs.Limits.{LENGTH}
 use Rattle.rules.specs.Text.{short, plain}
 use Rattle.rules.specs.Check.{first_failing, readable, fitting, check}
@@ -32,25 +33,41 @@ all_true true false z e = absurd (omega arith)
 all_true false y z e = absurd (omega arith)
 
 module _ (p : List ℕ → Bool) (t g f : List ℕ) where
-  pub fails_1 : p t ≡ false → 1 ≡ first_failing p t g f
-  unfolding first_failing
-  fails_1 a = sym (ap (λ x. first_of x (p g) (p f)) a)
+  -- the first k of them pass
+  pub record Pass (k : ℕ) : Type 0 where
+    pub theory : 0 < k → p t ≡ true
+    pub goals : 1 < k → p g ≡ true
+    pub proof : 2 < k → p f ≡ true
 
-  pub fails_2 : p t ≡ true → p g ≡ false → 2 ≡ first_failing p t g f
+  is_first : {x y z : Bool} → p t ≡ x → p g ≡ y → p f ≡ z → first_of x y z ≡ first_failing p t g f
   unfolding first_failing
-  fails_2 a b = sym (ap (λ x. first_of x (p g) (p f)) a ∙ ap (λ y. first_of true y (p f)) b)
+  is_first a b c = λ i. first_of (sym a i) (sym b i) (sym c i)
 
-  pub fails_3 : p t ≡ true → p g ≡ true → p f ≡ false → 3 ≡ first_failing p t g f
-  unfolding first_failing
-  fails_3 a b c = sym (ap (λ x. first_of x (p g) (p f)) a ∙ ap (λ y. first_of true y (p f)) b ∙ ap (λ z. first_of true true z) c)
+  pub none_passed : Pass 0
+  none_passed = record { theory = λ h. absurd (omega arith); goals = λ h. absurd (omega arith); proof = λ h. absurd (omega arith) }
 
-  pub fails_none : p t ≡ true → p g ≡ true → p f ≡ true → 0 ≡ first_failing p t g f
-  unfolding first_failing
-  fails_none a b c = sym (ap (λ x. first_of x (p g) (p f)) a ∙ ap (λ y. first_of true y (p f)) b ∙ ap (λ z. first_of true true z) c)
+  pub all_passed : {k : ℕ} → 3 ≤ k → Pass k → 0 ≡ first_failing p t g f
+  all_passed n h = is_first (h.theory (omega arith)) (h.goals (omega arith)) (h.proof (omega arith))
 
   none_fails : first_failing p t g f ≡ 0 → (p t ≡ true) × (p g ≡ true) × (p f ≡ true)
   unfolding first_failing
   none_fails e = all_true (p t) (p g) (p f) e
+
+module _ (p : List ℕ → Bool) (t g f : Bor (List ℕ)) (absent : Text × Bor (List ℕ)) where
+  abbrev pub text_at : ℕ → Text × Bor (List ℕ)
+  text_at k = slice_index_or ((text.Theory, t) ∷ (text.Goals, g) ∷ (text.Proof, f) ∷ []) k absent
+
+  pub one_passed : (k : ℕ) → k < 3 → p (text_at k).1.now ≡ true → Pass p t.now g.now f.now k → Pass p t.now g.now f.now (k + 1)
+  one_passed zero l e h = record { theory = λ _. e; goals = λ b. absurd (omega arith); proof = λ b. absurd (omega arith) }
+  one_passed (suc zero) l e h = record { theory = λ _. h.theory (omega arith); goals = λ _. e; proof = λ b. absurd (omega arith) }
+  one_passed (suc (suc zero)) l e h = record { theory = λ _. h.theory (omega arith); goals = λ _. h.goals (omega arith); proof = λ _. e }
+  one_passed (suc (suc (suc k))) l e h = absurd (omega arith)
+
+  pub one_fails : (k : ℕ) → k < 3 → p (text_at k).1.now ≡ false → Pass p t.now g.now f.now k → text_number (text_at k).0 ≡ first_failing p t.now g.now f.now
+  one_fails zero l e h = is_first p t.now g.now f.now e refl refl
+  one_fails (suc zero) l e h = is_first p t.now g.now f.now (h.theory (omega arith)) e refl
+  one_fails (suc (suc zero)) l e h = is_first p t.now g.now f.now (h.theory (omega arith)) (h.goals (omega arith)) e
+  one_fails (suc (suc (suc k))) l e h = absurd (omega arith)
 
 -- the question is left in the text with that number
 pub put_left : (x : Text) (q : Question) {n : ℕ} {r : Refused} {s : Stopped} → text_number x ≡ n → r ≡ record { question = q; form = 0 } →

@@ -1,29 +1,17 @@
 -- Question 1 by numbers, tables of just their named lengths, and the tables of a check that has nothing but a theory. Assumes nothing.
-use Rattle.std.specs.Prelude.{◌≡◌, Bool, true, false, ℕ, ◌*◌, List, [], ◌∷◌, length, get_or}
-use Rattle.rules.specs.Limits.{SORTS, SYMBOLS, ARGUMENTS, RULES, RULEVARS, PATTERNS, VARIABLES, TERMS, WORDS, DEFS, GOALS, FACTS, ENTRIES}
+use Rattle.std.specs.Prelude.{◌≡◌, ◌*◌, length}
+use Rattle.rules.specs.Limits.{VARIABLES, TERMS, WORDS, DEFS, GOALS, ENTRIES}
 use Rattle.terms.specs.declared.store.Mark.{Mark}
 use Rattle.state.specs.declared.sizes.Sizes.{Sizes}
 use Rattle.state.specs.Stands.{Board}
 use Rattle.running.specs.Between.{Fits}
+use Rattle.beginning.specs.declared.lengths.Lengths.{Lengths}
 
 -- Question 1 -----------------------------------------------------------------------------------------------------------------------
 
--- a test says whether A
-pub record Decides (b : Bool) (A : Type 0) : Type 0 where
-  pub yes : (b ≡ true → A)
-  pub no : (b ≡ false → A → ⊥)
-
--- the least lengths, in that order
-abbrev pub named : List ℕ
-named =
-    (2 * SORTS) ∷ (4 * SYMBOLS) ∷ (ARGUMENTS * SYMBOLS) ∷ (6 * RULES) ∷ (3 * RULEVARS * RULES) ∷ PATTERNS ∷ (4 * VARIABLES) ∷ (4 * TERMS) ∷ WORDS
-    ∷ (3 * DEFS) ∷ (6 * GOALS) ∷ ENTRIES ∷ GOALS ∷ FACTS ∷ []
-
--- all of them in one list
-abbrev pub FitsAll : List ℕ → Type 0
-FitsAll l =
-    Fits (get_or l 0 0) (get_or l 1 0) (get_or l 2 0) (get_or l 3 0) (get_or l 4 0) (get_or l 5 0) (get_or l 6 0) (get_or l 7 0) (get_or l 8 0)
-    (get_or l 9 0) (get_or l 10 0) (get_or l 11 0) (get_or l 12 0) (get_or l 13 0)
+-- all tables are long enough, and there are enough records
+abbrev pub FitsAll : Lengths → Type 0
+FitsAll l = Fits l.sorts l.symbols l.inputs l.rules l.rulevars l.patterns l.vars l.index l.words l.defs l.rows l.lists l.missing l.facts
 
 -- Tables of their named lengths ------------------------------------------------------------------------------------------------------
 

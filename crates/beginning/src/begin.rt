@@ -53,6 +53,7 @@ pub fn begin(
     ensures cells_unchanged { cells.new ≡ cells.old }
 {
     clear_board(board, store);
+    // no `map_err`: it promises what its closure answers, and not what that leaves in the tables
     if let Err(stopped) = ask(texts) {
         clear_theory(tables);
         return Err(stopped);

@@ -1,4 +1,4 @@
-// Question 1, by the lengths of the tables; the tables cleared.
+// The tables cleared.
 ghost use Rattle.std.specs.Prelude.{◌≡◌};
 ghost use Rattle.rules.specs.Theory.{no_theory};
 ghost use Rattle.kernel.specs.Parsed.{Exact, theory_tables};
@@ -6,47 +6,14 @@ ghost use Rattle.kernel.specs.Tables.{lists_of, SameTables as SameTheory};
 ghost use Rattle.terms.specs.Lent.{SameTables};
 ghost use Rattle.state.specs.Boards.{SameBoard};
 ghost use Rattle.state.specs.Stands.{tables_of};
-ghost use Rattle.beginning.specs.Lengths.{FitsAll, Decides};
 ghost use Rattle.beginning.specs.Opened.{Lending, Cleared};
 
-use crate::lengths;
 use cells::clear;
-use facts::zero_behind;
+use facts::Fact;
 use kernel::tables::{Counts, Tables};
-use sexp::lex;
 use state::board::Board;
 use state::sizes::Sizes;
 use terms::store::{Mark, Store};
-
-// The least lengths of the tables, in the order of `named` (specs/Lengths), by which `fits` promises; and of the records of facts.
-const NAMED: [usize; 14] = [
-    lengths::SORTS,
-    lengths::SYMBOLS,
-    lengths::INPUTS,
-    lengths::RULES,
-    lengths::RULEVARS,
-    lengths::PATTERNS,
-    lengths::VARS,
-    lengths::INDEX,
-    lengths::WORDS,
-    lengths::DEFS,
-    lengths::ROWS,
-    lengths::LISTS,
-    lengths::MISSING,
-    rules::FACTS,
-];
-
-// Question 1, by the lengths in that order. `zip(..).all(..)` was tried, and its proof stays open.
-pub fn fits(lengths: &[usize; 14]) -> bool
-    ensures { Decides result (FitsAll lengths.now) }
-{
-    for (k, least) in NAMED.iter().enumerate() {
-        if !lex::fits(lengths[k], *least) {
-            return false;
-        }
-    }
-    true
-}
 
 // The tables of a theory that declares nothing.
 pub fn clear_theory(tables: &mut Tables<'_>)
@@ -73,7 +40,7 @@ pub fn clear_board(board: &mut Board<'_>, store: &mut Store<'_>)
     clear(store.words);
     clear(board.defs);
     clear(board.rows);
-    zero_behind(board.facts, 0, rules::FACTS);
+    board.facts.fill(Fact::BLANK);
     clear(board.lists);
     store.mark = Mark::NONE;
     board.n = Sizes::from(Counts::NONE);

@@ -8,8 +8,7 @@ use running::stopped::Stopped;
 use running::texts::Texts;
 use sexp::lex::{plain, short};
 
-// A question, put to each text in turn; the first that fails the test is refused, before its first form. In turn, and no list of pairs: each has its own
-// `Text`, and `first_failing` tells them apart.
+// A question, put to each text in turn; the first that fails the test is refused, before its first form.
 fn each<F: Fn(&[u8]) -> bool>(
     texts: &Texts<'_>,
     question: Question,
@@ -19,15 +18,15 @@ fn each<F: Fn(&[u8]) -> bool>(
     ensures { (p : List ℕ → Bool) → ((x : _) (r : Bool) → F.post passes x r → r ≡ p x.now) →
         PutToEach question (first_failing p texts.now.theory.now texts.now.goals.now texts.now.proof.now) result }
 {
-    let refused = question.behind(0);
-    if !passes(texts.theory) {
-        return Err(Stopped::left_in(Text::Theory, refused));
-    }
-    if !passes(texts.goals) {
-        return Err(Stopped::left_in(Text::Goals, refused));
-    }
-    if !passes(texts.proof) {
-        return Err(Stopped::left_in(Text::Proof, refused));
+    let all = [
+        (Text::Theory, texts.theory),
+        (Text::Goals, texts.goals),
+        (Text::Proof, texts.proof),
+    ];
+    for (text, bytes) in all {
+        if !passes(bytes) {
+            return Err(Stopped::left_in(text, question.behind(0)));
+        }
     }
     Ok(())
 }

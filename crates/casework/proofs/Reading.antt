@@ -17,7 +17,7 @@ use Rattle.std.specs.Prelude.{Option, Result, Ok, Err}
 use Rattle.std.specs.Result.{result_ok}
 use denote.Ref.{Bor}
 use Rattle.questions.specs.declared.Question.{Question}
-use Rattle.reading.proofs.Missing.{there, absent}
+use Rattle.kernel.proofs.Missing.{there, absent}
 use Rattle.reading.specs.Given.{VarsItem, VarsItems}
 use Rattle.casework.specs.Cases.{CaseIs, Naming, TakenAs}
 use Rattle.cells.specs.declared.Span.{Span}

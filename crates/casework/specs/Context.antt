@@ -14,6 +14,8 @@ use Rattle.rules.specs.Laws.Theory.{All}
 use Rattle.rules.specs.Laws.Store.{Apart}
 use Rattle.terms.specs.declared.store.Mark.{Mark}
 use Rattle.terms.specs.Table.{made, args_of, Below, Good}
+use Rattle.terms.specs.Lent.{made_of}
+use Rattle.terms.specs.Subst.{replacement}
 use Rattle.terms.specs.Sets.{holds, plus}
 use Rattle.terms.specs.Theta.{Theta}
 use Rattle.terms.specs.Patterns.{cells_of, bound_of, Cells}
@@ -49,6 +51,13 @@ pub record Comparing (f : Facts) (a : Allowing) : Type 0 where
   pub judgment : a.judgment < mark.terms
   pub premises : Below mark.terms a.premises.now
 
+-- what is allowed, by those terms, and whether fact h is it
+abbrev pub allowed_by : {f : Facts} {a : Allowing} → Comparing f a → Allowed
+allowed_by {a = a} g = allowed_as (made g.index g.words g.mark) a
+
+abbrev pub allows : {f : Facts} {a : Allowing} → Comparing f a → ℕ → Bool
+allows g h = is_allowed (fact_of g.recalls.S h) (allowed_by g)
+
 -- without premises and generalised variables
 unfoldable pub plainly : Allowed → Bool
 plainly a = is_none a.premises && is_empty a.general
@@ -82,27 +91,31 @@ pub record Adds (M : Made) (S : State) (own plain plain' fine fine' : List ℕ) 
   pub plains : PlainAdds M plain plain' (plains_of bs)
   pub fines : holds fine' ≡ union (holds fine) (matching S own bs)
 
+-- x, y: the sets before and after what a fact of the context allows
+abbrev pub AddedAs : {f : Facts} {a : Allowing} → Comparing f a → Grounds → Grounds → Type 0
+AddedAs g x y = Adds (made g.index g.words g.mark) g.recalls.S x.own.now x.plain y.plain x.fine y.fine (allowed_by g ∷ [])
+
 -- K answers what the sets got
 pub record ContextRead (A : Type 0) (I W J X : List ℕ) (old : Mark) (S : State) (K : Out Made A) (these : A → List Allowed) (own plain plain' fine fine' : List ℕ) (new : Mark) : Type 0 where
   pub answer : A
   pub went : Went I W J X old K answer new
   pub adds : Adds (made J X new) S own plain plain' fine fine' (these answer)
 
--- the answer: the sets after those that were given, for the same facts
-abbrev pub ContextBy : (A : Type 0) → List ℕ → List ℕ → List ℕ → List ℕ → Mark → Mark → State → Out Made A → (A → List Allowed) → Grounds → Result Grounds Question → Type 0
-ContextBy A I W J X old new S K these g (Ok h) = ContextRead A I W J X old S K these g.own.now g.plain h.plain g.fine h.fine new × (h.own ≡ g.own)
-ContextBy A I W J X old new S K these g (Err q) = Stopped I W J X old K (number_of q) (detail_of q) new
+-- g, h: the sets before and after, for the same facts
+abbrev pub ContextBy : (A : Type 0) → List ℕ → List ℕ → List ℕ → List ℕ → Mark → Mark → State → Out Made A → (A → List Allowed) → Grounds → Grounds → Result (Unit {0}) Question → Type 0
+ContextBy A I W J X old new S K these g h (Ok _) = ContextRead A I W J X old S K these g.own.now g.plain h.plain g.fine h.fine new × (h.own ≡ g.own)
+ContextBy A I W J X old new S K these g h (Err q) = Stopped I W J X old K (number_of q) (detail_of q) new
 
-abbrev pub ContextAs : (A : Type 0) → Store → Store → State → Out Made A → (A → List Allowed) → Grounds → Result Grounds Question → Type 0
-ContextAs A s t S K these g r = ContextBy A s.index.now s.words.now t.index.now t.words.now s.mark t.mark S K these g r
+abbrev pub ContextAs : (A : Type 0) → Store → Store → State → Out Made A → (A → List Allowed) → Grounds → Grounds → Result (Unit {0}) Question → Type 0
+ContextAs A s t S K these g h r = ContextBy A s.index.now s.words.now t.index.now t.words.now s.mark t.mark S K these g h r
 
 -- the same where only room is asked for
-abbrev pub UnderBy : (A : Type 0) → List ℕ → List ℕ → List ℕ → List ℕ → Mark → Mark → State → Out Made A → (A → List Allowed) → Grounds → Result Grounds Row → Type 0
-UnderBy A I W J X old new S K these g (Ok h) = ContextRead A I W J X old S K these g.own.now g.plain h.plain g.fine h.fine new × (h.own ≡ g.own)
-UnderBy A I W J X old new S K these g (Err row) = Stopped I W J X old K 60 (row_number row) new
+abbrev pub UnderBy : (A : Type 0) → List ℕ → List ℕ → List ℕ → List ℕ → Mark → Mark → State → Out Made A → (A → List Allowed) → Grounds → Grounds → Result (Unit {0}) Row → Type 0
+UnderBy A I W J X old new S K these g h (Ok _) = ContextRead A I W J X old S K these g.own.now g.plain h.plain g.fine h.fine new × (h.own ≡ g.own)
+UnderBy A I W J X old new S K these g h (Err row) = Stopped I W J X old K 60 (row_number row) new
 
-abbrev pub UnderAs : (A : Type 0) → Store → Store → State → Out Made A → (A → List Allowed) → Grounds → Result Grounds Row → Type 0
-UnderAs A s t S K these g r = UnderBy A s.index.now s.words.now t.index.now t.words.now s.mark t.mark S K these g r
+abbrev pub UnderAs : (A : Type 0) → Store → Store → State → Out Made A → (A → List Allowed) → Grounds → Grounds → Result (Unit {0}) Row → Type 0
+UnderAs A s t S K these g h r = UnderBy A s.index.now s.words.now t.index.now t.words.now s.mark t.mark S K these g h r
 
 abbrev pub one : Allowed → List Allowed
 one a = a ∷ []
@@ -116,6 +129,10 @@ under σ f = do
   ps ← substitutes σ f.premises
   j ← substitute σ f.judgment
   pure (record { premises = ps; judgment = j; general = f.general })
+
+-- x, y: the sets before and after fact h came in, under the substitution in these cells
+abbrev pub PutUnder : Store → Store → State → List ℕ → ℕ → Grounds → Grounds → Result (Unit {0}) Row → Type 0
+PutUnder s t S map h x y r = UnderAs Allowed s t S (under (replacement (made_of s) map) (fact_of S h) (made_of s)) one x y r
 
 -- what a fact of the context is put under, and the facts that the case rests on
 pub record ContextGiven (facts lists : List ℕ) (n : Sizes) (I W : List ℕ) (m : Mark) (map memo own : List ℕ) : Type 0 where
@@ -157,6 +174,9 @@ RestsIn f = RestsGiven (fact_rows f.records.now) f.n
 unfoldable pub rests_by : Made → Fact → ℕ → Set → Set → Bool
 rests_by M f h plain fine = elim (is_plain f) [ true ↦ plain (number M f.judgment) | false ↦ f.assumed && fine h ]
 
+abbrev pub may_rest : {facts : List ℕ} {n : Sizes} → RestsGiven facts n → Grounds → ℕ → Bool
+may_rest g x h = rests_by g.trees (fact_of g.S h) h (holds x.plain) (holds x.fine)
+
 -- The rule's premises ------------------------------------------------------------------------------------------------------------------
 
 -- rule r, its variables bound to terms that are variables: renamed
@@ -180,9 +200,10 @@ pub record PremisesRead (I W J X : List ℕ) (old : Mark) (K : Out Made (List Al
   pub adds : PlainAdds (made J X new) set set' (plains_of these)
   pub only : others_of these ≡ []
 
-abbrev pub PremisesBy : List ℕ → List ℕ → List ℕ → List ℕ → Mark → Mark → Out Made (List Allowed) → Grounds → Result Grounds Question → Type 0
-PremisesBy I W J X old new K g (Ok h) = PremisesRead I W J X old K g.plain h.plain new × ((h.own ≡ g.own) × (h.fine ≡ g.fine))
-PremisesBy I W J X old new K g (Err q) = Stopped I W J X old K (number_of q) (detail_of q) new
+-- g, h: the sets before and after
+abbrev pub PremisesBy : List ℕ → List ℕ → List ℕ → List ℕ → Mark → Mark → Out Made (List Allowed) → Grounds → Grounds → Result (Unit {0}) Question → Type 0
+PremisesBy I W J X old new K g h (Ok _) = PremisesRead I W J X old K g.plain h.plain new × ((h.own ≡ g.own) × (h.fine ≡ g.fine))
+PremisesBy I W J X old new K g h (Err q) = Stopped I W J X old K (number_of q) (detail_of q) new
 
-abbrev pub PremisesAs : Store → Store → Out Made (List Allowed) → Grounds → Result Grounds Question → Type 0
-PremisesAs s t K g r = PremisesBy s.index.now s.words.now t.index.now t.words.now s.mark t.mark K g r
+abbrev pub PremisesAs : Store → Store → Out Made (List Allowed) → Grounds → Grounds → Result (Unit {0}) Question → Type 0
+PremisesAs s t K g h r = PremisesBy s.index.now s.words.now t.index.now t.words.now s.mark t.mark K g h r

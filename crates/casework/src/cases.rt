@@ -4,8 +4,8 @@ ghost use Rattle.rules.specs.Limits.{LENGTH};
 ghost use Rattle.rules.specs.Text.{same};
 ghost use Rattle.rules.specs.Find.{any};
 ghost use Rattle.rules.specs.Invert.{Case};
+ghost use Rattle.state.specs.Entries.{part};
 ghost use Rattle.casework.specs.Cases.{ReadsCase, ReadsCases, CaseFirst, CasesIn, CaseAs, CaseFound, Kept, Naming, TakenAs, CasesAs};
-ghost use Rattle.casework.specs.Distinct.{between};
 
 use crate::distinct::NameTree;
 use cells::Span;
@@ -52,9 +52,8 @@ pub fn read_case(reader: &Reader<'_>, cells: &[u32]) -> Result<CaseRead, Questio
     let mut own = [0u32; VARIABLES];
     let listed = reader.vars_list(items::from(inner, 2), &mut own);
     let variables = listed.ok_or(Question::CaseVariables)?;
-    let end = lex::atom_end(reader.text, start);
     Ok(CaseRead {
-        name: Span { from: start, end },
+        name: lex::atom_span(reader.text, start),
         fact,
         own,
         variables,
@@ -94,7 +93,7 @@ fn is_taken(names: &mut NameTree<'_, '_>, cells: &[u32], name: Span) -> bool
     requires { Naming names.old cells.now × (name.from ≤ name.end) × (name.end ≤ length names.old.text.now) }
     ensures same_text { names.new.text ≡ names.old.text }
     ensures taken { (g : Naming names.old cells.now) →
-        TakenAs names.new g.first.cs (between names.old.text.now name.from name.end) result }
+        TakenAs names.new g.first.cs (part names.old.text.now name) result }
 {
     let text = names.text;
     if text.len() > LENGTH {

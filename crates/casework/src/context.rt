@@ -8,11 +8,9 @@ ghost use Rattle.rules.specs.Find.{all};
 ghost use Rattle.rules.specs.Theory.{rule};
 ghost use Rattle.rules.specs.Store.{Made};
 ghost use Rattle.rules.specs.Unify.{along};
-ghost use Rattle.rules.specs.Invert.{Allowed, is_allowed, clear, context_fact, context_facts, rule_premises, renaming};
-ghost use Rattle.terms.specs.Table.{made};
+ghost use Rattle.rules.specs.Invert.{Allowed, clear, context_fact, context_facts, rule_premises, renaming};
 ghost use Rattle.terms.specs.Lent.{GoodTerms, SameTables, terms_of, terms_made, made_of};
 ghost use Rattle.terms.specs.Sets.{holds};
-ghost use Rattle.terms.specs.Subst.{replacement};
 ghost use Rattle.terms.specs.Theta.{bindings, Theta};
 ghost use Rattle.state.specs.declared.sizes.Sizes.{Sizes};
 ghost use Rattle.state.specs.Entries.{part};
@@ -21,7 +19,8 @@ ghost use Rattle.referring.specs.Recall.{fact_of};
 ghost use Rattle.referring.specs.Sources.{RecallsIn};
 ghost use Rattle.terms.specs.Table.{Below};
 ghost use Rattle.referring.specs.Ids.{IDS};
-ghost use Rattle.casework.specs.Context.{Comparing, allowed_as, plainly, Adds, ContextAs, UnderAs, one, all_of, under, ContextIn, MarkedAs, OneMarked, UnboundAs, RestsIn, rests_by, RenamedIn, PremisesAs};
+ghost use Rattle.casework.specs.Context.{Comparing, allowed_as, allowed_by, allows, plainly, AddedAs, OneMarked, MarkedAs, RestsIn, may_rest};
+ghost use Rattle.casework.specs.Context.{ContextIn, ContextAs, PutUnder, one, all_of, UnboundAs, RenamedIn, PremisesAs};
 
 use cells::clear;
 use kernel::rule_readers::Rules;
@@ -61,7 +60,7 @@ pub struct Allowing<'a> {
 pub struct Renamed<'a> {
     pub rule: usize,
     pub bound: &'a Bound,
-    pub theta: &'a [u32],
+    pub theta: &'a [u32; VARIABLES],
 }
 
 impl Allowing<'_> {
@@ -75,132 +74,13 @@ impl Allowing<'_> {
     // Whether fact h has its judgment, premises and generalised variables.
     fn is_fact(&self, facts: &Facts<'_>, h: usize) -> bool
         requires { Comparing facts.now self.now × (h < facts.now.n.facts) }
-        ensures { (g : Comparing facts.now self.now) → result ≡ is_allowed (fact_of g.recalls.S h) (allowed_as (made g.index g.words g.mark) self.now) }
+        ensures { (g : Comparing facts.now self.now) → result ≡ allows g h }
     {
         if judgment(facts.records, h) != self.judgment {
             return false;
         }
         self.premises == facts.premises(h) && self.general == facts.general(h)
     }
-}
-
-// Fact h joins the set where it has that judgment, those premises and generalised variables.
-fn mark_one(facts: &Facts<'_>, h: usize, allowing: &Allowing<'_>, fine: &mut [u64; FACTWORDS])
-    requires { Comparing facts.now allowing.now × (h < facts.now.n.facts) }
-    ensures { (g : Comparing facts.now allowing.now) →
-        OneMarked (is_allowed (fact_of g.recalls.S h) (allowed_as (made g.index g.words g.mark) allowing.now)) h fine.old fine.new }
-{
-    if allowing.is_fact(facts, h) {
-        insert(fine, h);
-    }
-}
-
-// Those of the facts `own` that have that judgment, those premises and generalised variables join the set.
-fn mark_rests(facts: &Facts<'_>, own: &[u32], allowing: &Allowing<'_>, fine: &mut [u64; FACTWORDS])
-    requires { Comparing facts.now allowing.now × Below facts.now.n.facts own.now }
-    ensures { (g : Comparing facts.now allowing.now) →
-        MarkedAs g.recalls.S own.now (allowed_as (made g.index g.words g.mark) allowing.now) fine.old fine.new }
-{
-    for h in own {
-        mark_one(facts, *h as usize, allowing, fine);
-    }
-}
-
-impl<'a> Grounds<'a> {
-    // Nothing is allowed yet.
-    pub fn none(own: &'a [u32]) -> Self
-        ensures { (result.own.now ≡ own.now) × (result.plain ≡ replicate TERMWORDS 0) × (result.fine ≡ replicate FACTWORDS 0) }
-    {
-        Grounds {
-            own,
-            plain: [0; TERMWORDS],
-            fine: [0; FACTWORDS],
-        }
-    }
-
-    // What a fact of the context allows joins the sets.
-    fn allow(&mut self, facts: &Facts<'_>, allowing: &Allowing<'_>)
-        requires { Comparing facts.now allowing.now × Below facts.now.n.facts self.old.own.now }
-        ensures adds { (g : Comparing facts.now allowing.now) →
-            Adds (made g.index g.words g.mark) g.recalls.S self.old.own.now self.old.plain self.new.plain self.old.fine self.new.fine (one (allowed_as (made g.index g.words g.mark) allowing.now)) }
-        ensures own { self.new.own ≡ self.old.own }
-    {
-        if allowing.is_plain() {
-            insert(&mut self.plain, allowing.judgment);
-            return;
-        }
-        mark_rests(facts, self.own, allowing, &mut self.fine);
-    }
-
-    // Whether the case may rest on fact h.
-    fn rests_on(&self, facts: &Facts<'_>, h: usize) -> bool
-        requires { RestsIn facts.now × (h < facts.now.n.facts) }
-        ensures { (g : RestsIn facts.now) → result ≡ rests_by g.trees (fact_of g.S h) h (holds self.now.plain) (holds self.now.fine) }
-    {
-        if is_plain(facts.records, h) {
-            return has(&self.plain, judgment(facts.records, h));
-        }
-        is_assumed(facts.records, h) && has(&self.fine, h)
-    }
-
-    // Question 44: whether the case may rest on all that it rests on.
-    pub fn rests_on_all(&self, facts: &Facts<'_>) -> bool
-        requires { RestsIn facts.now × Below facts.now.n.facts self.now.own.now }
-        ensures { (g : RestsIn facts.now) → result ≡ all (λ h. rests_by g.trees (fact_of g.S h) h (holds self.now.plain) (holds self.now.fine)) self.now.own.now }
-    {
-        self.own.iter().all(|h| self.rests_on(facts, *h as usize))
-    }
-}
-
-// Fact h of the context under the substitution `map`, and what it allows. `memo` is scratch: zero before and after; `ids` has a cell for each of the
-// fact's premises, of whatever content before and after.
-fn fact_under<'a>(
-    facts: &Facts<'_>,
-    store: &mut Store<'_>,
-    map: &[u32],
-    memo: &mut [u32],
-    h: usize,
-    ids: &mut [u32],
-    grounds: Grounds<'a>,
-) -> Result<Grounds<'a>, Row>
-    requires { ContextIn facts.now store.old map.now memo.old grounds × (h < facts.now.n.facts) × (length ids.old ≡ length (part facts.now.lists.now (premises_span (fact_rows facts.now.records.now) h))) }
-    ensures same_tables { SameTables store.old store.new }
-    ensures under_as { (g : RecallsIn facts.now (terms_of store.old)) →
-        UnderAs Allowed store.old store.new g.S (under (replacement (made_of store.old) map.now) (fact_of g.S h) (made_of store.old)) one grounds.entry result }
-    ensures memo_unchanged { memo.new ≡ memo.old }
-{
-    substitute_all(store, map, memo, facts.premises(h), ids)?;
-    let judgment = substitute(store, map, memo, judgment(facts.records, h))?;
-    let allowing = Allowing {
-        judgment,
-        premises: ids,
-        general: facts.general(h),
-    };
-    let mut more = grounds;
-    more.allow(facts, &allowing);
-    Ok(more)
-}
-
-// The same, with as many cells of `ids` as the fact has premises, which are cleared behind it: zero before and after.
-fn context_under<'a>(
-    facts: &Facts<'_>,
-    store: &mut Store<'_>,
-    map: &[u32],
-    memo: &mut [u32],
-    h: usize,
-    ids: &mut [u32],
-    grounds: Grounds<'a>,
-) -> Result<Grounds<'a>, Row>
-    requires { ContextIn facts.now store.old map.now memo.old grounds × (h < facts.now.n.facts) × (ids.old ≡ replicate IDS 0) }
-    ensures same_tables { SameTables store.old store.new }
-    ensures under_as { (g : RecallsIn facts.now (terms_of store.old)) →
-        UnderAs Allowed store.old store.new g.S (under (replacement (made_of store.old) map.now) (fact_of g.S h) (made_of store.old)) one grounds.entry result }
-    ensures memo_unchanged { (memo.new ≡ memo.old) × (ids.new ≡ ids.old) }
-{
-    let many = facts.premises(h).len();
-    let answer = fact_under(facts, store, map, memo, h, &mut ids[..many], grounds);
-    clear(&mut ids[..many]);
-    answer
 }
 
 // The cells of these variables become zero.
@@ -232,82 +112,203 @@ fn is_clear(terms: &Terms<'_>, map: &[u32], variables: &[u32]) -> bool
     none_in(&inside, variables)
 }
 
-// Fact h of the context under the unifier, which leaves its generalised variables alone, and what it allows.
-fn context_fact<'a>(
-    facts: &Facts<'_>,
-    store: &mut Store<'_>,
-    theta: &[u32],
-    memo: &mut [u32],
-    h: usize,
-    ids: &mut [u32],
-    grounds: Grounds<'a>,
-) -> Result<Grounds<'a>, Question>
-    requires { ContextIn facts.now store.old theta.now memo.old grounds × (h < facts.now.n.facts) × (ids.old ≡ replicate IDS 0) }
-    ensures same_tables { SameTables store.old store.new }
-    ensures context_as { (g : RecallsIn facts.now (terms_of store.old)) →
-        ContextAs Allowed store.old store.new g.S (context_fact (bindings (made_of store.old) theta.now 0) (fact_of g.S h) (made_of store.old)) one grounds.entry result }
-    ensures memo_unchanged { (memo.new ≡ memo.old) × (ids.new ≡ ids.old) }
-{
-    let variables = facts.general(h);
-    if variables.is_empty() {
-        return Ok(context_under(facts, store, theta, memo, h, ids, grounds)?);
+impl<'a> Grounds<'a> {
+    // Nothing is allowed yet.
+    pub fn none(own: &'a [u32]) -> Self
+        ensures { (result.own.now ≡ own.now) × (result.plain ≡ replicate TERMWORDS 0) × (result.fine ≡ replicate FACTWORDS 0) }
+    {
+        Grounds {
+            own,
+            plain: [0; TERMWORDS],
+            fine: [0; FACTWORDS],
+        }
     }
-    let mut zeta = [0u32; VARIABLES];
-    zeta.copy_from_slice(theta);
-    unbind(variables, &mut zeta);
-    if !is_clear(&store.terms(), &zeta, variables) {
-        return Err(Question::Captured);
-    }
-    Ok(context_under(facts, store, &zeta, memo, h, ids, grounds)?)
-}
 
-// All facts of the context in turn. `memo` and `ids` are scratch: zero before and after; a struct of both would be taken apart where
-// `context_under` cuts `ids`.
-pub fn context_facts<'a>(
-    facts: &Facts<'_>,
-    store: &mut Store<'_>,
-    theta: &[u32],
-    memo: &mut [u32],
-    context: &[u32],
-    ids: &mut [u32],
-    grounds: Grounds<'a>,
-) -> Result<Grounds<'a>, Question>
-    requires { ContextIn facts.now store.old theta.now memo.old grounds × Below facts.now.n.facts context.now × (ids.old ≡ replicate IDS 0) }
-    ensures same_tables { SameTables store.old store.new }
-    ensures context_as { (g : RecallsIn facts.now (terms_of store.old)) →
-        ContextAs (List Allowed) store.old store.new g.S (context_facts g.S (bindings (made_of store.old) theta.now 0) context.now (made_of store.old)) all_of grounds.entry result }
-    ensures memo_unchanged { (memo.new ≡ memo.old) × (ids.new ≡ ids.old) }
-{
-    let mut more = grounds;
-    for h in context {
-        more = context_fact(facts, store, theta, memo, *h as usize, ids, more)?;
+    // Fact h joins the set where it has that judgment, those premises and generalised variables.
+    fn mark_one(&mut self, facts: &Facts<'_>, h: usize, allowing: &Allowing<'_>)
+        requires { Comparing facts.now allowing.now × (h < facts.now.n.facts) }
+        ensures marked { (g : Comparing facts.now allowing.now) → OneMarked (allows g h) h self.old.fine self.new.fine }
+        ensures others { (self.new.own ≡ self.old.own) × (self.new.plain ≡ self.old.plain) }
+    {
+        if allowing.is_fact(facts, h) {
+            insert(&mut self.fine, h);
+        }
     }
-    Ok(more)
-}
 
-// The premises of a rule, renamed and then under the unifier, each in turn: they join the set of terms. `memo` is scratch: zero before and after.
-pub fn rule_premises<'a, 't>(
-    rules: &Rules<'t>,
-    symbols: &'t [u32],
-    store: &mut Store<'_>,
-    renamed: &Renamed<'_>,
-    memo: &mut [u32],
-    grounds: Grounds<'a>,
-) -> Result<Grounds<'a>, Question>
-    requires { ((n : Sizes) × RenamedIn rules.now symbols.now n store.old renamed.now) × Theta store.old.mark renamed.now.theta.now × (memo.old ≡ replicate TERMS 0) }
-    ensures same_tables { SameTables store.old store.new }
-    ensures premises_as { (n : Sizes) (g : RenamedIn rules.now symbols.now n store.old renamed.now) →
-        PremisesAs store.old store.new
-        (rule_premises (renaming g.xs) (along (bindings (made_of store.old) renamed.now.theta.now 0)) (rule g.T renamed.now.rule).premises (made_of store.old)) grounds.entry result }
-    ensures memo_unchanged { memo.new ≡ memo.old }
-{
-    let mut place = rules.words(renamed.rule).from;
-    let mut more = grounds;
-    for _ in 0..rules.premises(renamed.rule) {
-        let premise = rules.patterns(symbols).build(store, renamed.bound, place)?;
-        let t = substitute(store, renamed.theta, memo, premise.term)?;
-        insert(&mut more.plain, t);
-        place = premise.end;
+    // Those of the facts `own` that have that judgment, those premises and generalised variables join the set.
+    fn mark_rests(&mut self, facts: &Facts<'_>, allowing: &Allowing<'_>)
+        requires { Comparing facts.now allowing.now × Below facts.now.n.facts self.old.own.now }
+        ensures marked { (g : Comparing facts.now allowing.now) → MarkedAs g.recalls.S self.old.own.now (allowed_by g) self.old.fine self.new.fine }
+        ensures others { (self.new.own ≡ self.old.own) × (self.new.plain ≡ self.old.plain) }
+    {
+        for h in self.own {
+            self.mark_one(facts, *h as usize, allowing);
+        }
     }
-    Ok(more)
+
+    // What a fact of the context allows joins the sets.
+    fn allow(&mut self, facts: &Facts<'_>, allowing: &Allowing<'_>)
+        requires { Comparing facts.now allowing.now × Below facts.now.n.facts self.old.own.now }
+        ensures adds { (g : Comparing facts.now allowing.now) → AddedAs g self.old self.new }
+        ensures own { self.new.own ≡ self.old.own }
+    {
+        if allowing.is_plain() {
+            insert(&mut self.plain, allowing.judgment);
+            return;
+        }
+        self.mark_rests(facts, allowing);
+    }
+
+    // Fact h of the context under the substitution `map`, and what it allows. `memo` is scratch: zero before and after; `ids` has a cell for each of the
+    // fact's premises, of whatever content before and after.
+    fn fact_under(
+        &mut self,
+        facts: &Facts<'_>,
+        store: &mut Store<'_>,
+        map: &[u32],
+        memo: &mut [u32],
+        h: usize,
+        ids: &mut [u32],
+    ) -> Result<(), Row>
+        requires { ContextIn facts.now store.old map.now memo.old self.old × (h < facts.now.n.facts)
+            × (length ids.old ≡ length (part facts.now.lists.now (premises_span (fact_rows facts.now.records.now) h))) }
+        ensures same_tables { SameTables store.old store.new }
+        ensures under_as { (g : RecallsIn facts.now (terms_of store.old)) →
+            PutUnder store.old store.new g.S map.now h self.old self.new result }
+        ensures memo_unchanged { memo.new ≡ memo.old }
+    {
+        substitute_all(store, map, memo, facts.premises(h), ids)?;
+        let judgment = substitute(store, map, memo, judgment(facts.records, h))?;
+        let allowing = Allowing {
+            judgment,
+            premises: ids,
+            general: facts.general(h),
+        };
+        self.allow(facts, &allowing);
+        Ok(())
+    }
+
+    // The same, with as many cells of `ids` as the fact has premises, which are cleared behind it: zero before and after.
+    fn context_under(
+        &mut self,
+        facts: &Facts<'_>,
+        store: &mut Store<'_>,
+        map: &[u32],
+        memo: &mut [u32],
+        h: usize,
+        ids: &mut [u32],
+    ) -> Result<(), Row>
+        requires { ContextIn facts.now store.old map.now memo.old self.old × (h < facts.now.n.facts) × (ids.old ≡ replicate IDS 0) }
+        ensures same_tables { SameTables store.old store.new }
+        ensures under_as { (g : RecallsIn facts.now (terms_of store.old)) →
+            PutUnder store.old store.new g.S map.now h self.old self.new result }
+        ensures memo_unchanged { (memo.new ≡ memo.old) × (ids.new ≡ ids.old) }
+    {
+        let many = facts.premises(h).len();
+        let answer = self.fact_under(facts, store, map, memo, h, &mut ids[..many]);
+        clear(&mut ids[..many]);
+        answer
+    }
+
+    // Fact h of the context under the unifier, which leaves its generalised variables alone, and what it allows.
+    fn context_fact(
+        &mut self,
+        facts: &Facts<'_>,
+        store: &mut Store<'_>,
+        theta: &[u32; VARIABLES],
+        memo: &mut [u32],
+        h: usize,
+        ids: &mut [u32],
+    ) -> Result<(), Question>
+        requires { ContextIn facts.now store.old theta.now memo.old self.old × (h < facts.now.n.facts) × (ids.old ≡ replicate IDS 0) }
+        ensures same_tables { SameTables store.old store.new }
+        ensures context_as { (g : RecallsIn facts.now (terms_of store.old)) →
+            ContextAs Allowed store.old store.new g.S
+            (context_fact (bindings (made_of store.old) theta.now 0) (fact_of g.S h) (made_of store.old)) one self.old self.new result }
+        ensures memo_unchanged { (memo.new ≡ memo.old) × (ids.new ≡ ids.old) }
+    {
+        let variables = facts.general(h);
+        if variables.is_empty() {
+            return Ok(self.context_under(facts, store, theta, memo, h, ids)?);
+        }
+        let mut zeta = *theta;
+        unbind(variables, &mut zeta);
+        if !is_clear(&store.terms(), &zeta, variables) {
+            return Err(Question::Captured);
+        }
+        Ok(self.context_under(facts, store, &zeta, memo, h, ids)?)
+    }
+
+    // All facts of the context in turn. `memo` and `ids` are scratch: zero before and after; a struct of both would be taken apart where
+    // `context_under` cuts `ids`. On a refusal the sets hold what was allowed until then: whoever asks drops them.
+    pub fn context_facts(
+        &mut self,
+        facts: &Facts<'_>,
+        store: &mut Store<'_>,
+        theta: &[u32; VARIABLES],
+        memo: &mut [u32],
+        context: &[u32],
+        ids: &mut [u32],
+    ) -> Result<(), Question>
+        requires { ContextIn facts.now store.old theta.now memo.old self.old × Below facts.now.n.facts context.now × (ids.old ≡ replicate IDS 0) }
+        ensures same_tables { SameTables store.old store.new }
+        ensures context_as { (g : RecallsIn facts.now (terms_of store.old)) →
+            ContextAs (List Allowed) store.old store.new g.S
+            (context_facts g.S (bindings (made_of store.old) theta.now 0) context.now (made_of store.old)) all_of self.old self.new result }
+        ensures memo_unchanged { (memo.new ≡ memo.old) × (ids.new ≡ ids.old) }
+    {
+        for h in context {
+            self.context_fact(facts, store, theta, memo, *h as usize, ids)?;
+        }
+        Ok(())
+    }
+
+    // The premises of a rule, renamed and then under the unifier, each in turn: they join the set of terms. `memo` is scratch: zero before and after.
+    // `place` is carried by hand: where the pattern of the next one begins is known only from what `build` answers of the one before.
+    pub fn rule_premises<'t>(
+        &mut self,
+        rules: &Rules<'t>,
+        symbols: &'t [u32],
+        store: &mut Store<'_>,
+        renamed: &Renamed<'_>,
+        memo: &mut [u32],
+    ) -> Result<(), Question>
+        requires { ((n : Sizes) × RenamedIn rules.now symbols.now n store.old renamed.now) × Theta store.old.mark renamed.now.theta.now
+            × (memo.old ≡ replicate TERMS 0) }
+        ensures same_tables { SameTables store.old store.new }
+        ensures premises_as { (n : Sizes) (g : RenamedIn rules.now symbols.now n store.old renamed.now) →
+            PremisesAs store.old store.new
+            (rule_premises (renaming g.xs) (along (bindings (made_of store.old) renamed.now.theta.now 0)) (rule g.T renamed.now.rule).premises
+            (made_of store.old)) self.old self.new result }
+        ensures memo_unchanged { memo.new ≡ memo.old }
+    {
+        let theta = renamed.theta;
+        let mut place = rules.words(renamed.rule).from;
+        for _ in 0..rules.premises(renamed.rule) {
+            let premise = rules.patterns(symbols).build(store, renamed.bound, place)?;
+            let t = substitute(store, theta, memo, premise.term)?;
+            insert(&mut self.plain, t);
+            place = premise.end;
+        }
+        Ok(())
+    }
+
+    // Whether the case may rest on fact h.
+    fn rests_on(&self, facts: &Facts<'_>, h: usize) -> bool
+        requires { RestsIn facts.now × (h < facts.now.n.facts) }
+        ensures { (g : RestsIn facts.now) → result ≡ may_rest g self.now h }
+    {
+        if is_plain(facts.records, h) {
+            return has(&self.plain, judgment(facts.records, h));
+        }
+        is_assumed(facts.records, h) && has(&self.fine, h)
+    }
+
+    // Question 44: whether the case may rest on all that it rests on.
+    pub fn rests_on_all(&self, facts: &Facts<'_>) -> bool
+        requires { RestsIn facts.now × Below facts.now.n.facts self.now.own.now }
+        ensures { (g : RestsIn facts.now) → result ≡ all (may_rest g self.now) self.now.own.now }
+    {
+        self.own.iter().all(|h| self.rests_on(facts, *h as usize))
+    }
 }

@@ -2,9 +2,11 @@
 // bit more, so that it costs by its own letters, whatever the names are.
 ghost use Rattle.std.specs.Prelude.{◌≡◌, ◌+◌, ◌*◌, ◌<◌, ◌≤◌, length};
 ghost use Rattle.rules.specs.Limits.{LENGTH};
-ghost use Rattle.casework.specs.Distinct.{turn_of, between, TreeIn, SpotIn, SameNames, EnteredIn};
+ghost use Rattle.state.specs.Entries.{part};
+ghost use Rattle.casework.specs.Distinct.{turn_of, TreeIn, SpotIn, SameNames, EnteredIn};
 
 use cells::{Span, span_at};
+use kernel::atoms::put_span;
 use sexp::names::same;
 
 // Which of two ways a name takes at a depth: a number, since the way's cell is that far behind the first of a node's two.
@@ -15,8 +17,9 @@ fn turn(name: &[u8], depth: usize) -> usize
         .map_or(0, |letter| (usize::from(*letter) >> (depth % 8)) % 2)
 }
 
-// The names that were met, between two places of the text each, as a tree in cells. It is two tables of cells and no array of nodes: a link is one cell
-// whichever way it goes, and the root is cell 0 of them, which belongs to no node.
+// The names that were met, between two places of the text each, as a tree in cells. It is two tables of cells and no array of nodes, with the root in the
+// links of node 0: a link is one number here, whichever way it goes, so that `seek` carries and answers one; of nodes it would be two, the node and the way,
+// and the check knows nothing of how long an array in an element of a slice is, so that the two links of a node would be two fields and a choice.
 #[derive(Drop)]
 pub struct NameTree<'t, 'a> {
     pub text: &'t [u8],
@@ -54,7 +57,7 @@ impl NameTree<'_, '_> {
         requires tree { TreeIn self.old × (2 * self.old.many + 4 ≤ length self.old.places.now) × (length self.old.places.now ≤ LENGTH) }
         requires inside { (name.from ≤ name.end) × (name.end ≤ length self.old.text.now) × (length self.old.text.now ≤ LENGTH) }
         ensures same_names { SameNames self.old self.new }
-        ensures entered { EnteredIn self.old self.new (between self.old.text.now name.from name.end) result }
+        ensures entered { EnteredIn self.old self.new (part self.old.text.now name) result }
     {
         let text = self.text;
         let Some(cell) = self.seek(name.of(text)) else {
@@ -62,8 +65,7 @@ impl NameTree<'_, '_> {
         };
         let node = self.many + 1;
         let row = 2 * node;
-        self.places[row] = name.from as u32;
-        self.places[row + 1] = name.end as u32;
+        put_span(self.places, row, name);
         self.links[cell] = node as u32;
         self.many = node;
         false

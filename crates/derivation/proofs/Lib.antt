@@ -2,7 +2,6 @@ pub mod AllItems
 pub mod Applies
 pub mod Concluding
 pub mod Discharging
-pub mod Lists
 pub mod Meeting
 pub mod OneItem
 pub mod PremiseTurn

@@ -10,7 +10,7 @@ use lib.Dec.{eqb}
 use lib.ListN.{length, get_or, set, drop}
 use borrow.Author.Tests.{eq-eqb, ne_eqb, eqb-true}
 use Rattle.std.specs.Option.{is_some}
-use Rattle.rules.specs.Limits.{RULEVARS}
+use Rattle.rules.specs.Limits.{RULEVARS, TERMS}
 use Rattle.rules.specs.Out.{Out, ok, then, Act, ask, found as find}
 use Rattle.rules.specs.Text.{same}
 use Rattle.rules.specs.Lex.{letters}
@@ -139,6 +139,9 @@ module _ {K : Names} {rules rulevars : List ℕ} {n : Sizes} {I W : List ℕ} {m
           module _ {J X : List ℕ} {new : Mark} {id : ℕ} (t : (h : ReadsItem K n I W m cells) → TermRead I W J X m (term_of h.S h.x s (made I W m)) id new) where
             read : TermRead I W J X m (term_of g.S g.x (get_or (rule g.S.theory r).vars v no_rule_var).sort (made I W m)) id new
             read = subst (λ (z : ℕ). TermRead I W J X m (term_of g.S g.x z (made I W m)) id new) sorted (t bind_given)
+
+            pub bind_fits : id < TERMS
+            bind_fits = let t = read in let l = t.there in let k = t.went.grown.good.room in omega arith
 
             -- bound already
             pub bind_twice : (get_or bound v 0 ≡ 0 → ⊥) →

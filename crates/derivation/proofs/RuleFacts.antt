@@ -3,18 +3,16 @@ use mathlib.Core.Path.{◌≡◌, refl, sym, ap, ◌∙◌, subst}
 use mathlib.Core.Bool.{Bool, true, false, not, ◌&&◌, ◌||◌}
 use Rattle.std.specs.Prelude.{Option, Some as some, None as nothing, Ok, Err}
 use mathlib.Core.List.{List, [], ◌∷◌}
-use Prim.Native.Nat.{ℕ, zero, suc, ◌+◌, ◌*◌, ◌<◌}
+use Prim.Native.Nat.{ℕ, suc, ◌+◌, ◌-◌, ◌*◌, ◌<◌}
 use native.Mathlib.Omega.{arith}
 use native.Mathlib.Numerals.{add-one}
-use native.Mathlib.Decide.{ℕ_discrete}
-use Rattle.std.specs.List.{list_all, range_with_len}
+use Rattle.std.specs.List.{list_all, enumerate_from}
 use lib.Dec.{eqb}
-use lib.ListN.{length, get_or, drop, replicate, drop_of_length-le}
-use lib.Seq.{drop-cons}
-use borrow.Author.Tests.{eq-eqb, ne_eqb}
+use lib.ListN.{length, get_or, replicate}
 use Rattle.rules.specs.Limits.{VARIABLES, FACTS, VARIABLEWORDS}
 use Rattle.rules.specs.Out.{Out, ok, then, Act, ask}
 use Rattle.rules.specs.Find.{Set, all, has, union}
+use Rattle.rules.specs.Tree.{var}
 use Rattle.rules.specs.Store.{Made}
 use Rattle.rules.specs.Unify.{Binding}
 use Rattle.rules.specs.State.{State, Fact, is_plain}
@@ -24,7 +22,6 @@ use Rattle.rules.specs.Laws.Theory.{All, all_at}
 use Rattle.terms.specs.Sets.{holds}
 use Rattle.terms.specs.Theta.{bindings}
 use Rattle.terms.specs.Laws.Sets.{holds_zero}
-use Rattle.terms.specs.Laws.Theta.{bindings_zero, bindings_some}
 use Rattle.state.specs.Held.{records}
 use Rattle.state.specs.Rows.{cell, hyps_span, general_span, plain_row}
 use Rattle.state.specs.Entries.{part}
@@ -43,43 +40,34 @@ module _ {facts lists : List ℕ} {i : ℕ} (g : RuleFact facts lists i) where
   pub rule_asks : (length facts ≡ 6 * FACTS) × (i < FACTS)
   rule_asks = fact_asks g.recorded g.there
 
--- Tests on a list -------------------------------------------------------------------------------------------------------------------
-
-all_none : {A : Type 0} (p : A → Bool) → all p [] ≡ true
-unfolding all
-all_none p = refl
-
 -- Generalised variables --------------------------------------------------------------------------------------------------------------
 
 -- the binding's variable is among these
 abbrev among : List ℕ → Binding → Bool
 among vs b = has vs b.variable
 
--- whether each variable from v on that is bound is in the set
-module _ (set : Set) (M : Made) (bound : List ℕ) where
-  bound_all : (n v : ℕ) → n + v ≡ length bound →
-      list_all (λ k. eqb (get_or bound k 0) 0 || set k) (range_with_len v n) ≡ all (λ (b : Binding). set b.variable) (bindings M (drop v bound) v)
+-- whether each variable that is bound is in the set, the first of the cells being that of v
+module _ (set : Set) (M : Made) where
+  bound_all : (cells : List ℕ) (v : ℕ) →
+      list_all (λ p. eqb p.1 0 || set p.0) (enumerate_from v cells) ≡ all (λ (b : Binding). set b.variable) (bindings M cells v)
   unfolding bindings all
-  bound_all zero v e =
-      sym (ap (λ (cs : List ℕ). all (λ (b : Binding). set b.variable) (bindings M cs v)) (drop_of_length-le bound {i = v} (omega (arith, e)))
-      ∙ all_none (λ (b : Binding). set b.variable))
-  bound_all (suc n) v e =
-      let l : v < length bound = omega (arith, e) in
-      let ih = bound_all n (v + 1) (omega (arith, e)) ∙ ap (λ (w : ℕ). all (λ (b : Binding). set b.variable) (bindings M (drop w bound) w)) (add-one v) in
-      let first = ap (λ (cs : List ℕ). all (λ (b : Binding). set b.variable) (bindings M cs v)) (drop-cons bound v 0 l) in
-      elim (ℕ_discrete (get_or bound v 0) 0) [
-        | yes z ↦
-            ap (λ (t : Bool). (t || set v) && list_all (λ k. eqb (get_or bound k 0) 0 || set k) (range_with_len (v + 1) n)) (eq-eqb _ 0 z) ∙ ih
-            ∙ sym (first ∙ ap (all (λ (b : Binding). set b.variable)) (bindings_zero M (get_or bound v 0) (drop (suc v) bound) v z))
-        | no z ↦
-            ap (λ (t : Bool). (t || set v) && list_all (λ k. eqb (get_or bound k 0) 0 || set k) (range_with_len (v + 1) n)) (ne_eqb _ 0 z)
-            ∙ more (set v) ih
-            ∙ sym (first ∙ ap (all (λ (b : Binding). set b.variable)) (bindings_some M (get_or bound v 0) (drop (suc v) bound) v z))
-      ]
+  bound_all [] v = refl
+  bound_all (c ∷ cs) v =
+      go (eqb c 0) (bound_all cs (v + 1) ∙ ap (λ (w : ℕ). all (λ (b : Binding). set b.variable) (bindings M cs w)) (add-one v))
     where
       more : {a b : Bool} (t : Bool) → a ≡ b → (t && a) ≡ elim t [ true ↦ b | false ↦ false ]
       more true h = h
       more false h = refl
+
+      go : (t : Bool) → list_all (λ p. eqb p.1 0 || set p.0) (enumerate_from (v + 1) cs) ≡ all (λ (b : Binding). set b.variable) (bindings M cs (suc v)) →
+          ((t || set v) && list_all (λ p. eqb p.1 0 || set p.0) (enumerate_from (v + 1) cs))
+          ≡ all (λ (b : Binding). set b.variable)
+          (elim t [
+            | true ↦ bindings M cs (suc v)
+            | false ↦ record { variable = v; value = get_or M (c - 1) (var 0) } ∷ bindings M cs (suc v)
+          ])
+      go true h = h
+      go false h = more (set v) h
 
 module _ {facts lists : List ℕ} {i : ℕ} {vs : List ℕ} (e : vs ≡ part lists (general_span facts i)) where
   module _ (g : RuleFact facts lists i) where
@@ -94,13 +82,13 @@ module _ {facts lists : List ℕ} {i : ℕ} {vs : List ℕ} (e : vs ≡ part lis
         omega (arith, g.recorded.rows.row7)
 
     -- own: the set of them; b: whether no cell binds another
-    pub general_all : (bound own : List ℕ) {zeros : List ℕ} → length bound ≡ VARIABLES → zeros ≡ replicate VARIABLEWORDS 0 → holds own ≡ union (holds zeros) (has vs) → (M : Made) →
-        {b : Bool} → b ≡ list_all (λ v. eqb (get_or bound v 0) 0 || holds own v) (range_with_len 0 VARIABLES) →
+    pub general_all : (bound own : List ℕ) {zeros : List ℕ} → zeros ≡ replicate VARIABLEWORDS 0 → holds own ≡ union (holds zeros) (has vs) → (M : Made) →
+        {b : Bool} → b ≡ list_all (λ p. eqb p.1 0 || holds own p.0) (enumerate_from 0 bound) →
         b ≡ all (among (fact_of g.S i).general) (bindings M bound 0)
-    general_all bound own {zeros} w z h M r =
+    general_all bound own {zeros} z h M r =
         let s : holds own ≡ has (fact_of g.S i).general
         = h ∙ ap (λ (a : Set). union a (has vs)) (ap holds z ∙ holds_zero VARIABLEWORDS) ∙ ap has general_is in
-        r ∙ bound_all (holds own) M bound VARIABLES 0 (omega (arith, w)) ∙ ap (λ (a : Set). all (λ (b : Binding). a b.variable) (bindings M bound 0)) s
+        r ∙ bound_all (holds own) M bound 0 ∙ ap (λ (a : Set). all (λ (b : Binding). a b.variable) (bindings M bound 0)) s
 
 -- Hypotheses ------------------------------------------------------------------------------------------------------------------------
 

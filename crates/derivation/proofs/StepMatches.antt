@@ -2,6 +2,7 @@
 use mathlib.Core.Path.{◌≡◌, refl, sym, ap, ◌∙◌, subst}
 use mathlib.Core.Bool.{Bool, true, false, true≢false}
 use Rattle.std.specs.Prelude.{Option, Some as some, None as nothing}
+use Rattle.std.specs.Option.{is_some}
 use mathlib.Core.List.{List, [], ◌∷◌}
 use Prim.Native.Nat.{ℕ, suc, ◌<◌}
 use native.Mathlib.Omega.{arith}
@@ -13,27 +14,32 @@ use Rattle.rules.specs.Match.{Bound, and_then, matches, match_all, build}
 use Rattle.rules.specs.Step.{match_stated, conclude}
 use Rattle.terms.specs.declared.store.Mark.{Mark}
 use Rattle.terms.specs.Table.{made, args_of}
-use Rattle.terms.specs.Patterns.{tree_in, bound_of, Stands, Cells, Builds, Stops, AllMatchable, Buildable, AllMatched, all, not_all, MatchedAll}
+use Rattle.terms.specs.Patterns.{tree_in, bound_of, Stands, Cells, Builds, Stops, AllMatchable, Buildable, Tried, hit, miss, TriedAll}
 use Rattle.terms.specs.On.{On, Stopped, on_start, on_is, on_done, on_went, on_stopped, on_found_some, on_found_none, builds_went, stops_stopped}
 use Rattle.terms.specs.Laws.Growth.{made_length}
 use Rattle.reading.specs.Answers.{TermRead}
-use Rattle.derivation.specs.Stepping.{StatedMatchable, Concludable, concluded}
+use Rattle.derivation.specs.Stepping.{MatchedAs, matched, unmatched, StatedMatchable, Concludable, concluded}
 
 -- What a match says --------------------------------------------------------------------------------------------------------------------
 
-module _ {M : Made} {B C : List ℕ} {K : Option Bound} where
-  all_yes : {r : Bool} → AllMatched M B C K r → r ≡ true → (K ≡ some (bound_of M C)) × Cells (length M) C
-  all_yes (all e c f) q = (e, c)
-  all_yes (not_all e c f) q = absurd (true≢false (sym q ∙ f))
+module _ {M : Made} {C : List ℕ} {K : Option Bound} where
+  matched_yes : {r : Bool} → MatchedAs M C K r → r ≡ true → (K ≡ some (bound_of M C)) × Cells (length M) C
+  matched_yes (matched e c f) q = (e, c)
+  matched_yes (unmatched e f) q = absurd (true≢false (sym q ∙ f))
 
-  all_no : {r : Bool} → AllMatched M B C K r → r ≡ false → K ≡ nothing
-  all_no (all e c f) q = absurd (true≢false (sym f ∙ q))
-  all_no (not_all e c f) q = e
+  matched_no : {r : Bool} → MatchedAs M C K r → r ≡ false → K ≡ nothing
+  matched_no (matched e c f) q = absurd (true≢false (sym f ∙ q))
+  matched_no (unmatched e f) q = e
+
+  -- whether there is a place behind
+  tried_is : {behind : ℕ} {r : Option ℕ} → Tried M C K behind r → MatchedAs M C K (is_some r)
+  tried_is (hit e c f) = matched e c (ap is_some f)
+  tried_is (miss e c f) = unmatched e (ap is_some f)
 
   -- of one pattern
-  matched_one : {b : Bool} → AllMatched M B C (and_then K (λ c. some c)) b → AllMatched M B C K b
+  matched_one : {b : Bool} → MatchedAs M C (and_then K (λ c. some c)) b → MatchedAs M C K b
   unfolding and_then
-  matched_one {b} h = subst (λ (L : Option Bound). AllMatched M B C L b) (only K) h
+  matched_one {b} h = subst (λ (L : Option Bound). MatchedAs M C L b) (only K) h
     where
       only : (o : Option Bound) → and_then o (λ c. some c) ≡ o
       only nothing = refl
@@ -70,20 +76,20 @@ module _ {S P I W : List ℕ} {m : Mark} {B : List ℕ} {place stated : ℕ} (g 
           there = λ k h. let z : k ≡ 0 = omega arith in subst (λ (j : ℕ). get_or (id ∷ []) j 0 < m.terms) (sym z) stated_small;
         }
 
-    pub stated_matched : {C : List ℕ} {b : Bool} → MatchedAll S P I W m B C place (id ∷ []) b →
-        (p : Tree) → Stands S P place p → AllMatched (made I W m) B C (match_stated p (tree_in (made I W m) stated) (bound_of (made I W m) B)) b
+    pub stated_matched : {C : List ℕ} {r : Option ℕ} → TriedAll S P I W m B C place (id ∷ []) r →
+        (p : Tree) → Stands S P place p → MatchedAs (made I W m) C (match_stated p (tree_in (made I W m) stated) (bound_of (made I W m) B)) (is_some r)
     unfolding match_stated Stands count_trees matches args_of
-    stated_matched {C} {b} a p w =
-        subst (λ (K : Option Bound). AllMatched (made I W m) B C K b)
+    stated_matched {C} {r} a p w =
+        subst (λ (K : Option Bound). MatchedAs (made I W m) C K (is_some r))
         (sym (ap (λ (o : Option Tree). match_stated p o (bound_of (made I W m) B)) (tree_in_some (made I W m) id e)))
-        (matched_one (a (more p none) (w, tt) refl))
+        (matched_one (tried_is (a (more p none) (w, tt) refl)))
 
   -- none is
   pub stated_none : stated ≡ 0 → (p : Tree) → Stands S P place p →
-      AllMatched (made I W m) B B (match_stated p (tree_in (made I W m) stated) (bound_of (made I W m) B)) true
+      MatchedAs (made I W m) B (match_stated p (tree_in (made I W m) stated) (bound_of (made I W m) B)) true
   unfolding match_stated
   stated_none e p w =
-      all (ap (λ (o : Option Tree). match_stated p o (bound_of (made I W m) B)) (tree_in_none (made I W m) e))
+      matched (ap (λ (o : Option Tree). match_stated p o (bound_of (made I W m) B)) (tree_in_none (made I W m) e))
       (subst (λ (k : ℕ). Cells k B) (sym (made_length I W m)) g.cells) refl
 
 -- The conclusion -----------------------------------------------------------------------------------------------------------------------
@@ -104,13 +110,13 @@ module _ {S P I W : List ℕ} {m : Mark} {B : List ℕ} {first place : ℕ} {ids
 
   -- a: what is stated matches, or nothing is
   module _ {C : List ℕ} {a : Bool} (h : (p : Tree) → Stands S P place p →
-      AllMatched (made I W m) B C (match_stated p (tree_in (made I W m) stated) (bound_of (made I W m) B)) a) where
+      MatchedAs (made I W m) C (match_stated p (tree_in (made I W m) stated) (bound_of (made I W m) B)) a) where
     pub stated_other : a ≡ false → Stopped I W I W m answer 38 0 m
-    stated_other e = on_found_none second 38 on_first (all_no (h g.rule.conclusion g.conclusion) e)
+    stated_other e = on_found_none second 38 on_first (matched_no (h g.rule.conclusion g.conclusion) e)
 
     module _ (e : a ≡ true) where
-      hit : (match_stated g.rule.conclusion (tree_in (made I W m) stated) (bound_of (made I W m) B) ≡ some (bound_of (made I W m) C)) × Cells (length (made I W m)) C
-      hit = all_yes (h g.rule.conclusion g.conclusion) e
+      first_hit : (match_stated g.rule.conclusion (tree_in (made I W m) stated) (bound_of (made I W m) B) ≡ some (bound_of (made I W m) C)) × Cells (length (made I W m)) C
+      first_hit = matched_yes (h g.rule.conclusion g.conclusion) e
 
       pub premises_matchable : AllMatchable S P I W m C first ids
       premises_matchable =
@@ -118,21 +124,21 @@ module _ {S P I W : List ℕ} {m : Mark} {B : List ℕ} {first place : ℕ} {ids
             good = g.good;
             symbols = g.symbols;
             reads = record { patterns = g.rule.premises; stands = g.premises; count = g.many };
-            cells = cells_made I W m hit.1;
+            cells = cells_made I W m first_hit.1;
             there = g.there;
           }
 
       on_second : On I W m answer I W m (then (found 38 (match_all g.rule.premises (args_of (made I W m) ids) (bound_of (made I W m) C)) (made I W m)) last)
-      on_second = on_found_some second 38 on_first hit.0
+      on_second = on_found_some second 38 on_first first_hit.0
 
       -- b: the premises match
-      module _ {D : List ℕ} {b : Bool} (d : MatchedAll S P I W m C D first ids b) where
-        pub premises_other : b ≡ false → Stopped I W I W m answer 38 0 m
-        premises_other f = on_found_none last 38 on_second (all_no (d g.rule.premises g.premises g.many) f)
+      module _ {D : List ℕ} {r : Option ℕ} (d : TriedAll S P I W m C D first ids r) where
+        pub premises_other : is_some r ≡ false → Stopped I W I W m answer 38 0 m
+        premises_other f = on_found_none last 38 on_second (matched_no (tried_is (d g.rule.premises g.premises g.many)) f)
 
-        module _ (f : b ≡ true) where
+        module _ (f : is_some r ≡ true) where
           hits : (match_all g.rule.premises (args_of (made I W m) ids) (bound_of (made I W m) C) ≡ some (bound_of (made I W m) D)) × Cells (length (made I W m)) D
-          hits = all_yes (d g.rule.premises g.premises g.many) f
+          hits = matched_yes (tried_is (d g.rule.premises g.premises g.many)) f
 
           on_last : On I W m answer I W m (last (bound_of (made I W m) D) (made I W m))
           on_last = on_found_some last 38 on_second hits.0

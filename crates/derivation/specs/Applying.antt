@@ -14,7 +14,7 @@ use Rattle.rules.specs.Apply.{Applied, applied, discharge, value_vars}
 use Rattle.sexp.specs.Items.{Holds}
 use Rattle.terms.specs.declared.store.Mark.{Mark}
 use Rattle.terms.specs.Sets.{holds}
-use Rattle.terms.specs.Theta.{Theta}
+use Rattle.terms.specs.Theta.{Theta, bindings}
 use Rattle.terms.specs.On.{Went, Stopped}
 use Rattle.state.specs.declared.sizes.Sizes.{Sizes}
 use Rattle.state.specs.Held.{Names, records, Recorded}
@@ -26,9 +26,10 @@ use Rattle.questions.specs.Numbers.{number_of, detail_of}
 use Rattle.terms.specs.declared.store.Store.{Store}
 use Rattle.referring.specs.declared.source.Facts.{Facts}
 use Rattle.referring.specs.declared.source.Source.{Source}
+use Rattle.derivation.specs.declared.apply.Rule.{Rule}
 use Rattle.derivation.specs.declared.apply.Discharge.{Discharge}
 use Rattle.referring.specs.Sources.{source_names}
-use Rattle.referring.specs.Recall.{judgment_cells, Refers}
+use Rattle.referring.specs.Recall.{fact_of, judgment_cells, Refers}
 
 -- A fact as a rule ---------------------------------------------------------------------------------------------------------------
 
@@ -40,9 +41,6 @@ pub record RuleFact (facts lists : List ℕ) (i : ℕ) : Type 0 where
   pub footings : List ℕ
   pub recorded : Recorded (records facts footings lists) n trees S
   pub there : i < n.facts
-
-abbrev pub RuleIn : Facts → ℕ → Type 0
-RuleIn f i = RuleFact (fact_rows f.records.now) f.lists.now i
 
 -- what the definition makes of it, where it can be used
 unfoldable pub rule_of : State → ℕ → Fact → Applied
@@ -64,6 +62,25 @@ premise_numbers facts lists i =
       | true ↦ part lists (premises_span facts i)
       | false ↦ judgment_cells facts (part lists (hyps_span facts i))
     ]
+
+-- As it is lent ----------------------------------------------------------------------------------------------------------------------
+
+abbrev pub RuleIn : Facts → Rule → Type 0
+RuleIn f r = RuleFact (fact_rows f.records.now) f.lists.now r.fact
+
+-- its fact, and what the definition makes of it
+abbrev pub fact_in : State → Rule → Fact
+fact_in S r = fact_of S r.fact
+
+abbrev pub applied_in : State → Rule → Applied
+applied_in S r = rule_of S r.fact (fact_in S r)
+
+-- the numbers of its premises, and its bindings
+abbrev pub premises_in : Facts → Rule → List ℕ
+premises_in f r = premise_numbers (fact_rows f.records.now) f.lists.now r.fact
+
+abbrev pub bindings_in : Made → Rule → List Binding
+bindings_in M r = bindings M r.bound.now 0
 
 -- What is left of the form -----------------------------------------------------------------------------------------------------------
 
@@ -112,8 +129,9 @@ pub record RuleUse (K : Names) (facts footings lists : List ℕ) (n : Sizes) (I 
   pub many : count xs ≡ length (premise_numbers facts lists i)
   pub theta : Theta m bound
 
-abbrev pub UsesRule : Source → Store → ℕ → List ℕ → List ℕ → Type 0
-UsesRule s t i cells bound = RuleUse (source_names s) (fact_rows s.records.now) (fact_feet s.records.now) s.lists.now s.reader.n t.index.now t.words.now t.mark i cells bound
+abbrev pub UsesRule : Source → Store → Rule → List ℕ → Type 0
+UsesRule s t r cells =
+    RuleUse (source_names s) (fact_rows s.records.now) (fact_feet s.records.now) s.lists.now s.reader.n t.index.now t.words.now t.mark r.fact cells r.bound.now
 
 -- K answers the references together: what they bring is in the sets
 pub record Discharged (I W J X : List ℕ) (old : Mark) (S : State) (K : Out Made Refs) (hyps footing used : List ℕ) (new : Mark) : Type 0 where

@@ -1,6 +1,6 @@
 -- The parts of a step behind its references: what the definition says of each, what they are given and what they answer. Assumes nothing.
 use Rattle.state.specs.Records.{fact_rows}
-use Rattle.std.specs.Prelude.{◌≡◌, false, List, [], ◌∷◌, ℕ, ◌*◌, ◌<◌, ◌≤◌, eqb, length, get_or, Option, Result, Ok, Err}
+use Rattle.std.specs.Prelude.{◌≡◌, Bool, true, false, List, [], ◌∷◌, ℕ, ◌*◌, ◌<◌, ◌≤◌, eqb, length, get_or, Option, Some as some, None as nothing, Result, Ok, Err}
 use Rattle.rules.specs.Limits.{SYMBOLS}
 use Rattle.rules.specs.Out.{Out, Act, ◌>>=◌, pure, ask, found}
 use Rattle.rules.specs.Find.{Set, has, union, rising}
@@ -22,7 +22,7 @@ use Rattle.terms.specs.declared.store.Terms.{Terms}
 use Rattle.terms.specs.declared.store.Store.{Store}
 use Rattle.terms.specs.Table.{tree, Good}
 use Rattle.terms.specs.Sets.{holds, counted_from_1}
-use Rattle.terms.specs.Patterns.{Stands, Standing, PatternAt, cells_of, Cells}
+use Rattle.terms.specs.Patterns.{Stands, Standing, PatternAt, cells_of, bound_of, Cells}
 use Rattle.terms.specs.On.{Went, Stopped}
 use Rattle.state.specs.declared.sizes.Sizes.{Sizes}
 use Rattle.state.specs.Held.{Names, RuleLists, Ruled}
@@ -87,6 +87,11 @@ by_rule S r xs = do
 
 -- Given ------------------------------------------------------------------------------------------------------------------------------
 
+-- K is the definition's answer, r whether there is one, and C the cells; without a match nothing is said of the cells
+pub data MatchedAs (M : Made) (C : List ℕ) (K : Option Bound) (r : Bool) : Type 0 where
+  matched : K ≡ some (bound_of M C) → Cells (length M) C → r ≡ true → MatchedAs M C K r
+  unmatched : K ≡ nothing → r ≡ false → MatchedAs M C K r
+
 -- a pattern at place, what is bound in the cells B, and what is stated, by its number with 1 added
 pub record StatedMatchable (S P I W : List ℕ) (m : Mark) (B : List ℕ) (place stated : ℕ) : Type 0 where
   pub good : Good I W m
@@ -134,6 +139,10 @@ PremisesOf rules r k =
     k ≡ count_trees (rule T r).premises
 
 -- As they are lent -------------------------------------------------------------------------------------------------------------------
+
+-- the rule is known, and has k premises
+abbrev pub KnownRule : Reader → OneRule → ℕ → Type 0
+KnownRule r u k = (u.number < r.n.rules) × PremisesOf u.rules.rows.now u.number k
 
 abbrev pub StatedIn : Patterns → Terms → List ℕ → ℕ → Option ℕ → Type 0
 StatedIn p t B place stated = StatedMatchable p.symbols.now p.words.now t.index.now t.words.now t.mark B place (counted_from_1 stated)

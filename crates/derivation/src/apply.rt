@@ -1,21 +1,20 @@
 // `(apply N M (BINDING...) (REF...))`: fact M as a rule. An assumed M binds its generalised variables and has its premises; of another M the
 // hypotheses, all plain, are the premises, by rising index.
-ghost use Rattle.state.specs.Records.{fact_rows};
 ghost use Rattle.std.specs.Prelude.{◌≡◌, ◌<◌, length, get_or, replicate};
 ghost use Rattle.rules.specs.Limits.{VARIABLES, TERMS, VARIABLEWORDS};
 ghost use Rattle.rules.specs.Find.{all, union, has as has_number};
 ghost use Rattle.rules.specs.Store.{Made};
 ghost use Rattle.rules.specs.State.{Fact};
 ghost use Rattle.rules.specs.Apply.{plain_at, discharge, apply};
-ghost use Rattle.terms.specs.Table.{tree};
+ghost use Rattle.rules.specs.Tree.{var};
 ghost use Rattle.terms.specs.Lent.{SameTables, made_of};
 ghost use Rattle.terms.specs.Sets.{holds};
-ghost use Rattle.terms.specs.Theta.{Theta, bindings as bindings_of};
-ghost use Rattle.referring.specs.Recall.{fact_of};
+ghost use Rattle.terms.specs.Theta.{Theta};
 ghost use Rattle.referring.specs.Referral.{ReferredAs};
 ghost use Rattle.referring.specs.Derived.{DerivedAs, alone};
 ghost use Rattle.referring.specs.Sources.{ReadsReference, ReadsForm};
-ghost use Rattle.derivation.specs.Applying.{RuleIn, rule_of, ApplicableAs, premise_numbers, met_by, apply_to, apply_on, UsesRule, DischargedAs};
+ghost use Rattle.derivation.specs.Applying.{RuleIn, fact_in, applied_in, premises_in, bindings_in, ApplicableAs, met_by, apply_to, apply_on};
+ghost use Rattle.derivation.specs.Applying.{UsesRule, DischargedAs};
 
 use questions::Question;
 use reading::names::index as index_in;
@@ -31,11 +30,12 @@ use terms::store::Store;
 use terms::substitute::substitute;
 use terms::variables::visit;
 
-// A fact that is used as a rule, under bindings: a cell for each variable, 0 for none and a number with 1 added, what `substitute` reads.
+// A fact that is used as a rule, under bindings: a cell for each variable, 0 for none and a number with 1 added, what `substitute` reads. Four methods ask
+// whether it is assumed. An enum of the two uses would be matched on in the same four, and is no plainer: the definition asks of the fact itself (`applied`).
 #[derive(Clone, Copy)]
 struct Rule<'a> {
     fact: usize,
-    bound: &'a [u32],
+    bound: &'a [u32; VARIABLES],
 }
 
 // What the references bring: what is rested on, and the variables of their judgments, as a set.
@@ -48,8 +48,8 @@ struct Discharge {
 impl Rule<'_> {
     // Whether the hypotheses of the fact are all plain.
     fn rests_on_plain(&self, facts: &Facts<'_>) -> bool
-        requires { RuleIn facts.now self.now.fact }
-        ensures { (g : RuleIn facts.now self.now.fact) → result ≡ all (plain_at g.S.facts) (fact_of g.S self.now.fact).hyps }
+        requires { RuleIn facts.now self.now }
+        ensures { (g : RuleIn facts.now self.now) → result ≡ all (plain_at g.S.facts) (fact_in g.S self.now).hyps }
     {
         let hyps = facts.hyps(self.fact);
         hyps.iter().all(|h| is_plain(facts.records, *h as usize))
@@ -57,8 +57,8 @@ impl Rule<'_> {
 
     // How many premises the fact has as a rule.
     fn premises_of(&self, facts: &Facts<'_>) -> usize
-        requires { RuleIn facts.now self.now.fact }
-        ensures { result ≡ length (premise_numbers (fact_rows facts.now.records.now) facts.now.lists.now self.now.fact) }
+        requires { RuleIn facts.now self.now }
+        ensures { result ≡ length (premises_in facts.now self.now) }
     {
         if is_assumed(facts.records, self.fact) {
             return facts.premises(self.fact).len();
@@ -68,8 +68,8 @@ impl Rule<'_> {
 
     // Its premise k.
     fn premise(&self, facts: &Facts<'_>, k: usize) -> usize
-        requires { RuleIn facts.now self.now.fact × (k < length (premise_numbers (fact_rows facts.now.records.now) facts.now.lists.now self.now.fact)) }
-        ensures { result ≡ get_or (premise_numbers (fact_rows facts.now.records.now) facts.now.lists.now self.now.fact) k 0 }
+        requires { RuleIn facts.now self.now × (k < length (premises_in facts.now self.now)) }
+        ensures { result ≡ get_or (premises_in facts.now self.now) k 0 }
     {
         if is_assumed(facts.records, self.fact) {
             return facts.premises(self.fact)[k] as usize;
@@ -79,8 +79,8 @@ impl Rule<'_> {
 
     // A hypothesis that is used as a rule is rested on.
     fn rest_on(&self, facts: &Facts<'_>, hyps: &mut [u64; FACTWORDS])
-        requires { RuleIn facts.now self.now.fact }
-        ensures { (g : RuleIn facts.now self.now.fact) → holds hyps.new ≡ union (has_number (rule_of g.S self.now.fact (fact_of g.S self.now.fact)).hyps) (holds hyps.old) }
+        requires { RuleIn facts.now self.now }
+        ensures { (g : RuleIn facts.now self.now) → holds hyps.new ≡ union (has_number (applied_in g.S self.now).hyps) (holds hyps.old) }
     {
         if is_assumed(facts.records, self.fact) {
             insert(hyps, self.fact);
@@ -89,18 +89,21 @@ impl Rule<'_> {
 
     // Whether the map binds no variable but those that the fact generalises.
     fn binds_general(&self, facts: &Facts<'_>) -> bool
-        requires { RuleIn facts.now self.now.fact × (length self.now.bound.now ≡ VARIABLES) }
-        ensures { (g : RuleIn facts.now self.now.fact) (M : Made) → result ≡ all (λ b. has_number (fact_of g.S self.now.fact).general b.variable) (bindings_of M self.now.bound.now 0) }
+        requires { RuleIn facts.now self.now }
+        ensures { (g : RuleIn facts.now self.now) (M : Made) →
+            result ≡ all (λ b. has_number (fact_in g.S self.now).general b.variable) (bindings_in M self.now) }
     {
         let mut own = [0u64; VARIABLEWORDS];
         insert_all(facts.general(self.fact), &mut own);
-        (0..VARIABLES).all(|v| self.bound[v] == 0 || has(&own, v))
+        let bound = self.bound;
+        let mut cells = bound.iter().enumerate();
+        cells.all(|(v, t)| *t == 0 || has(&own, v))
     }
 
     // Questions 36 and 40: whether the fact can be used as a rule under the map.
     fn applicable(&self, facts: &Facts<'_>) -> Result<(), Question>
-        requires { RuleIn facts.now self.now.fact × (length self.now.bound.now ≡ VARIABLES) }
-        ensures { (g : RuleIn facts.now self.now.fact) (M : Made) → ApplicableAs g.S (bindings_of M self.now.bound.now 0) self.now.fact (fact_of g.S self.now.fact) result }
+        requires { RuleIn facts.now self.now }
+        ensures { (g : RuleIn facts.now self.now) (M : Made) → ApplicableAs g.S (bindings_in M self.now) self.now.fact (fact_in g.S self.now) result }
     {
         if is_assumed(facts.records, self.fact) {
             if self.binds_general(facts) {
@@ -126,11 +129,12 @@ impl Rule<'_> {
         requires reads { ReadsReference source.now store.old cells.now }
         requires theta { Theta store.old.mark self.now.bound.now × (p < store.old.mark.terms) × (memo.old ≡ replicate TERMS 0) }
         ensures same_tables { SameTables store.old store.new }
-        ensures referred_as { (g : ReadsReference source.now store.old cells.now) → let s = store.old in
-            ReferredAs s store.new g.S (met_by g.S (bindings_of (made_of s) self.now.bound.now 0) (tree s.index.now s.words.now s.mark p) g.x (made_of s)) result }
+        ensures referred_as { (g : ReadsReference source.now store.old cells.now) → let M = made_of store.old in
+            ReferredAs store.old store.new g.S (met_by g.S (bindings_in M self.now) (get_or M p (var 0)) g.x M) result }
         ensures memo_unchanged { memo.new ≡ memo.old }
     {
-        let under = substitute(store, self.bound, memo, p)?;
+        let bound = self.bound;
+        let under = substitute(store, bound, memo, p)?;
         let referred = source.reference(store, cells, memo)?;
         if referred.judgment != under {
             return Err(Question::Matching);
@@ -146,11 +150,11 @@ impl Rule<'_> {
         cells: &[u32],
         memo: &mut [u32],
     ) -> Result<Discharge, Question>
-        requires rule_use { UsesRule source.now store.old self.now.fact cells.now self.now.bound.now }
+        requires rule_use { UsesRule source.now store.old self.now cells.now }
         requires memo_value { memo.old ≡ replicate TERMS 0 }
         ensures same_tables { SameTables store.old store.new }
-        ensures discharged_as { (g : UsesRule source.now store.old self.now.fact cells.now self.now.bound.now) →
-            DischargedAs store.old store.new g.S (discharge g.S (bindings_of (made_of store.old) self.now.bound.now 0) g.xs (rule_of g.S self.now.fact (fact_of g.S self.now.fact)).premises (made_of store.old)) result }
+        ensures discharged_as { (g : UsesRule source.now store.old self.now cells.now) → let M = made_of store.old in
+            DischargedAs store.old store.new g.S (discharge g.S (bindings_in M self.now) g.xs (applied_in g.S self.now).premises M) result }
         ensures memo_unchanged { memo.new ≡ memo.old }
     {
         let facts = source.facts();
@@ -175,11 +179,11 @@ impl Rule<'_> {
         cells: &[u32],
         memo: &mut [u32],
     ) -> Result<Derived, Question>
-        requires rule_use { UsesRule source.now store.old self.now.fact cells.now self.now.bound.now }
+        requires rule_use { UsesRule source.now store.old self.now cells.now }
         requires blank { (memo.old ≡ replicate TERMS 0) × (j < store.old.mark.terms) }
         ensures same_tables { SameTables store.old store.new }
-        ensures derived_as { (g : UsesRule source.now store.old self.now.fact cells.now self.now.bound.now) → let s = store.old in
-            DerivedAs Fact s store.new g.S (apply_to g.S (bindings_of (made_of s) self.now.bound.now 0) (rule_of g.S self.now.fact (fact_of g.S self.now.fact)) g.xs (tree s.index.now s.words.now s.mark j) (made_of s)) alone result }
+        ensures derived_as { (g : UsesRule source.now store.old self.now cells.now) → let M = made_of store.old in
+            DerivedAs Fact store.old store.new g.S (apply_to g.S (bindings_in M self.now) (applied_in g.S self.now) g.xs (get_or M j (var 0)) M) alone result }
         ensures memo_unchanged { memo.new ≡ memo.old }
     {
         let facts = source.facts();
@@ -189,8 +193,9 @@ impl Rule<'_> {
         } = self.discharge(source, store, cells, memo)?;
         self.rest_on(&facts, &mut support.hyps);
         let terms = store.terms();
+        let bound = self.bound;
         let mut seen = [0u64; TERMWORDS];
-        visit_cells(&terms, self.bound, &mut seen, &mut used);
+        visit_cells(&terms, bound, &mut seen, &mut used);
         facts.scoped(&terms, &used, j, &support.hyps)?;
         Ok(Derived {
             judgment: j,
@@ -210,8 +215,8 @@ impl Rule<'_> {
         requires reads { ReadsForm source.now store.old cells.now 5 }
         requires theta { Theta store.old.mark self.now.bound.now × (memo.old ≡ replicate TERMS 0) }
         ensures same_tables { SameTables store.old store.new }
-        ensures derived_as { (g : ReadsForm source.now store.old cells.now 5) →
-            DerivedAs Fact store.old store.new g.S (apply_on g.S self.now.fact g.xs (bindings_of (made_of store.old) self.now.bound.now 0) (made_of store.old)) alone result }
+        ensures derived_as { (g : ReadsForm source.now store.old cells.now 5) → let M = made_of store.old in
+            DerivedAs Fact store.old store.new g.S (apply_on g.S self.now.fact g.xs (bindings_in M self.now) M) alone result }
         ensures memo_unchanged { memo.new ≡ memo.old }
     {
         if !is_fact(source.reader.n, self.fact) {
@@ -223,7 +228,8 @@ impl Rule<'_> {
         if items::count(inner) != self.premises_of(&facts) {
             return Err(Question::Premises);
         }
-        let j = substitute(store, self.bound, memo, judgment(facts.records, self.fact))?;
+        let bound = self.bound;
+        let j = substitute(store, bound, memo, judgment(facts.records, self.fact))?;
         self.apply_to(source, store, j, inner, memo)
     }
 }

@@ -8,8 +8,7 @@ ghost use Rattle.rules.specs.Step.{Items, bind_item, state_item, read_item, read
 ghost use Rattle.sexp.specs.Encode.{encodes};
 ghost use Rattle.sexp.specs.Items.{Items as SomeItems};
 ghost use Rattle.terms.specs.Lent.{SameTables, made_of};
-ghost use Rattle.reading.specs.Reader.{names_of};
-ghost use Rattle.reading.specs.Given.{ReadsItem};
+ghost use Rattle.reading.specs.Lent.{ReadsItemIn};
 ghost use Rattle.derivation.specs.ItemsOf.{ReadsRuleItem, ReadsRuleItems, HeldIn, ItemAs, ItemsAs};
 
 use kernel::atoms::marked;
@@ -71,7 +70,7 @@ impl Said {
         if self.bound[i].is_some() {
             return Err(Question::Binding);
         }
-        self.bound[i] = Some(term);
+        self.bound[i] = Some(term as u32);
         Ok(())
     }
 
@@ -82,9 +81,9 @@ impl Said {
         store: &mut Store<'_>,
         cells: &[u32],
     ) -> Result<(), Question>
-        requires { ReadsItem (names_of reader.now) reader.now.n store.old.index.now store.old.words.now store.old.mark cells.now }
+        requires { ReadsItemIn reader.now store.old cells.now }
         ensures same_tables { SameTables store.old store.new }
-        ensures item_as { (g : ReadsItem (names_of reader.now) reader.now.n store.old.index.now store.old.words.now store.old.mark cells.now) (it : Items) →
+        ensures item_as { (g : ReadsItemIn reader.now store.old cells.now) (it : Items) →
             HeldIn store.old self.old it →
             ItemAs store.old store.new (state_item g.S g.x it (made_of store.old)) self.old self.new result }
     {
@@ -96,7 +95,7 @@ impl Said {
         Ok(())
     }
 
-    // The first item: a binding, or the conclusion.
+    // The first item: a binding, or the conclusion. No `items::head`, which answers the bytes of a name: `marked` of the kernel asks by the name's place.
     fn read_item(
         &mut self,
         reader: &Reader<'_>,

@@ -93,10 +93,7 @@ pub extern "C" fn tariff_substitute(
 fn number_of(answer: Result<bool, Row>) -> usize
     ensures { result ≡ found_of answer }
 {
-    match answer {
-        Ok(exists) => usize::from(exists),
-        Err(_) => 2,
-    }
+    answer.map_or(2, usize::from)
 }
 
 // Two terms whose variables are below `variables` are unified. The bindings found are in `theta`, in the form of a map; it is zero before,

@@ -5,6 +5,8 @@ ghost use Rattle.std.specs.Prelude.{◌≡◌, not, ◌<◌, ◌≤◌, eqb, len
 ghost use Rattle.facts.specs.declared.Fact.{Fact};
 ghost use Rattle.facts.specs.Table.{blank, appended, zeroed};
 
+use rules::RULEWORDS;
+
 // The number of its judgment; 1 if it is assumed; the first entry of its lists; how many hypotheses, premises and generalised variables they
 // have; the rules that it rests on, a bit each. Programs in other languages lend such records, so that their layout is C's.
 #[repr(C)]
@@ -16,7 +18,7 @@ pub struct Fact {
     pub hyps: u32,
     pub premises: u32,
     pub general: u32,
-    pub footing: [u64; 4], // RULEWORDS of them; this crate stands on no other, so that it has not that name
+    pub footing: [u64; RULEWORDS],
 }
 
 impl Fact {
@@ -28,7 +30,7 @@ impl Fact {
         hyps: 0,
         premises: 0,
         general: 0,
-        footing: [0; 4],
+        footing: [0; RULEWORDS],
     };
 }
 

@@ -117,6 +117,9 @@ module _ {K : Names} {n : Sizes} {I W : List ℕ} {m : Mark} {cells : List ℕ} 
       pub def_name : AtomText K.text (item g.xs 1) start
       def_name = nth_text g.holds 1 a e
 
+      abbrev end : ℕ
+      end = start + length (letters (drop start K.text))
+
       -- its name
       abbrev the_name : Name
       the_name = record { start = start; bytes = letters (drop start K.text) }
@@ -125,9 +128,9 @@ module _ {K : Names} {n : Sizes} {I W : List ℕ} {m : Mark} {cells : List ℕ} 
         pub def_no_mark : mk ≡ false → Halts I W I W m g.S (add_def g.xs g.S) 33 0 m
         def_no_mark f = first_halts (def_unmarked_lem g.xs g.S def_name.is (sym b ∙ f))
 
-        module _ (yes : mk ≡ true) {end : ℕ} (d : end ≡ start + length (letters (drop start K.text))) where
+        module _ (yes : mk ≡ true) where
           pub def_too_short : end < start + 2 → Halts I W I W m g.S (add_def g.xs g.S) 33 0 m
-          def_too_short l = first_halts (def_short g.xs g.S def_name.is (sym b ∙ yes) (omega (arith, d, l)))
+          def_too_short l = first_halts (def_short g.xs g.S def_name.is (sym b ∙ yes) (omega (arith, l)))
 
           module _ (l : start + 2 ≤ end) {behind : List ℕ} (p : (ys : Sexps) → cells ≡ encodes ys → behind ≡ drop (place ys 2) cells) where
             -- what the term is read from
@@ -141,7 +144,7 @@ module _ {K : Names} {n : Sizes} {I W : List ℕ} {m : Mark} {cells : List ℕ} 
             begun : Reached I W m g.S answer I W m (then (making (term g.S (item g.xs 2)) (with_made g.S (made I W m))) behind_term)
             begun =
                 let z = reached_start g.reads.good (reads_ready g.reads) g.store (λ U. then (making (term g.S (item g.xs 2)) U) behind_term) in
-                record { makes = z.makes; here = def_begun g.xs g.S def_name.is (sym b ∙ yes) (omega (arith, d, l)) ∙ z.here }
+                record { makes = z.makes; here = def_begun g.xs g.S def_name.is (sym b ∙ yes) (omega (arith, l)) ∙ z.here }
 
             module _ {J X : List ℕ} {new : Mark} where
               pub def_term_no : {q d : ℕ} →
@@ -167,7 +170,7 @@ module _ {K : Names} {n : Sizes} {I W : List ℕ} {m : Mark} {cells : List ℕ} 
                     DefFound M ds (take (end - start) (drop start K.text)) q) where
                   found_told : DefFound (made J X new) g.S.defs (letters (drop start K.text)) q
                   found_told =
-                      subst (λ bs. DefFound (made J X new) g.S.defs bs q) (atom_part K.text start end def_name.inside d)
+                      subst (λ bs. DefFound (made J X new) g.S.defs bs q) (atom_part K.text start end def_name.inside refl)
                       (w (made J X new) g.S.defs def_reads.spelling.defs)
 
                   pub def_again : {i : ℕ} → q ≡ some i → Halts I W J X m g.S (add_def g.xs g.S) 33 0 new
@@ -202,7 +205,7 @@ module _ {K : Names} {n : Sizes} {I W : List ℕ} {m : Mark} {cells : List ℕ} 
                           there = sound_in (made J X new) (tree J X new t)
                               (grows_ok (term_keeps g.S (item g.xs 2) (made I W m) (reads_ready g.reads)) term_read.read.went.makes).1;
                           starts = refl;
-                          ends = d;
+                          ends = refl;
                           numbered = sym (tree_number term_read.read.went.grown.good t term_read.read.there);
                           small = term_read.read.there;
                         }

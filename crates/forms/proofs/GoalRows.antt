@@ -1,5 +1,5 @@
 -- What `add_goal` answers, question by question, and what the code finds for it: the name, rows 11 and 13. Assumes nothing.
-use mathlib.Core.Path.{◌≡◌, ap, ◌∙◌}
+use mathlib.Core.Path.{◌≡◌, refl, ap, ◌∙◌}
 use mathlib.Core.Bool.{Bool}
 use Rattle.std.specs.Prelude.{Option, Some as some, None as nothing}
 use mathlib.Core.List.{List, [], ◌∷◌, ◌++◌}
@@ -102,43 +102,45 @@ module _ {goals rows : List ℕ} {n : Sizes} {cells : List ℕ} (g : GoalPlace g
       pub place_inside : start ≤ length goals
       place_inside = omega (arith, place_text.inside)
 
-      module _ {end : ℕ} (f : end ≡ start + length (letters (drop start goals))) where
-        pub place_high : end ≤ length goals
-        place_high = atom_high goals start end place_text.inside f
+      abbrev end : ℕ
+      end = start + length (letters (drop start goals))
 
-        module _ {r : Option ℕ} (b : (M : Made) (gs : List Goal) → GoalsHeld goals rows n.goals M gs → r ≡ (goal_named gs (take (end - start) (drop start goals)))) where
-          looked : r ≡ (goal_named g.S.goals (letters (drop start goals)))
-          looked = b g.trees g.S.goals g.held
-              ∙ ap (λ (z : List ℕ). (goal_named g.S.goals z)) (atom_part goals start end place_text.inside f)
+      pub place_high : end ≤ length goals
+      place_high = atom_high goals start end place_text.inside refl
 
-          pub place_twice : {k : ℕ} → r ≡ some k → (hs : Trees) (j : Tree) → add_goal (item g.xs 1) hs j g.S ≡ refuse 24 0 g.S
-          place_twice {k} q hs j =
-              goal_twice_lem (item g.xs 1) hs j g.S place_text.is (found_at (goal_named g.S.goals (letters (drop start goals))) r k looked q)
+      module _ {r : Option ℕ} (b : (M : Made) (gs : List Goal) → GoalsHeld goals rows n.goals M gs → r ≡ (goal_named gs (take (end - start) (drop start goals)))) where
+        looked : r ≡ (goal_named g.S.goals (letters (drop start goals)))
+        looked = b g.trees g.S.goals g.held
+            ∙ ap (λ (z : List ℕ). (goal_named g.S.goals z)) (atom_part goals start end place_text.inside refl)
 
-          module _ (q : r ≡ nothing) where
-            fresh : goal_named g.S.goals (letters (drop start goals)) ≡ nothing
-            fresh = found_missing (goal_named g.S.goals (letters (drop start goals))) r looked q
+        pub place_twice : {k : ℕ} → r ≡ some k → (hs : Trees) (j : Tree) → add_goal (item g.xs 1) hs j g.S ≡ refuse 24 0 g.S
+        place_twice {k} q hs j =
+            goal_twice_lem (item g.xs 1) hs j g.S place_text.is (found_at (goal_named g.S.goals (letters (drop start goals))) r k looked q)
 
-            pub place_11 : GOALS ≤ n.goals → (hs : Trees) (j : Tree) → add_goal (item g.xs 1) hs j g.S ≡ refuse 60 11 g.S
-            place_11 l hs j = goal_11 (item g.xs 1) hs j g.S place_text.is fresh (omega (arith, l, g.held.many))
+        module _ (q : r ≡ nothing) where
+          fresh : goal_named g.S.goals (letters (drop start goals)) ≡ nothing
+          fresh = found_missing (goal_named g.S.goals (letters (drop start goals))) r looked q
 
-            module _ (l : n.goals < GOALS) (hs : Trees) (j : Tree) {hyps : ℕ} (c : hyps ≡ count_trees hs) where
-              pub place_13 : ENTRIES - n.entries < hyps → add_goal (item g.xs 1) hs j g.S ≡ refuse 60 13 g.S
-              place_13 k =
-                  goal_13 (item g.xs 1) hs j g.S place_text.is fresh (omega (arith, l, g.held.many)) (omega (arith, k, c, g.used, g.fits))
+          pub place_11 : GOALS ≤ n.goals → (hs : Trees) (j : Tree) → add_goal (item g.xs 1) hs j g.S ≡ refuse 60 11 g.S
+          place_11 l hs j = goal_11 (item g.xs 1) hs j g.S place_text.is fresh (omega (arith, l, g.held.many))
 
-              pub place_added : (judgment : ℕ) (after : List ℕ) → hyps ≤ ENTRIES - n.entries →
-                  after ≡ sets rows (6 * n.goals) (start ∷ end ∷ judgment ∷ n.entries ∷ hyps ∷ 0 ∷ []) →
-                  GoalPlaced goals rows after n judgment g.S hs j (add_goal (item g.xs 1) hs j g.S) (n.entries + hyps)
-              place_added judgment after k w =
-                  record {
-                    name = name_from goals start;
-                    end = end;
-                    is = goal_added (item g.xs 1) hs j g.S place_text.is fresh (omega (arith, l, g.held.many)) (omega (arith, k, c, g.used, g.fits));
-                    named = atom_named goals start place_text.inside;
-                    ends = f;
-                    room = l;
-                    used = ap (λ (z : ℕ). n.entries + z) c;
-                    fits = omega (arith, k, g.fits);
-                    rows_are = w ∙ ap (λ (z : ℕ). sets rows (6 * n.goals) (start ∷ end ∷ judgment ∷ n.entries ∷ z ∷ 0 ∷ [])) c;
-                  }
+          module _ (l : n.goals < GOALS) (hs : Trees) (j : Tree) {hyps : ℕ} (c : hyps ≡ count_trees hs) where
+            pub place_13 : ENTRIES - n.entries < hyps → add_goal (item g.xs 1) hs j g.S ≡ refuse 60 13 g.S
+            place_13 k =
+                goal_13 (item g.xs 1) hs j g.S place_text.is fresh (omega (arith, l, g.held.many)) (omega (arith, k, c, g.used, g.fits))
+
+            pub place_added : (judgment : ℕ) (after : List ℕ) → hyps ≤ ENTRIES - n.entries →
+                after ≡ sets rows (6 * n.goals) (start ∷ end ∷ judgment ∷ n.entries ∷ hyps ∷ 0 ∷ []) →
+                GoalPlaced goals rows after n judgment g.S hs j (add_goal (item g.xs 1) hs j g.S) (n.entries + hyps)
+            place_added judgment after k w =
+                record {
+                  name = name_from goals start;
+                  end = end;
+                  is = goal_added (item g.xs 1) hs j g.S place_text.is fresh (omega (arith, l, g.held.many)) (omega (arith, k, c, g.used, g.fits));
+                  named = atom_named goals start place_text.inside;
+                  ends = refl;
+                  room = l;
+                  used = ap (λ (z : ℕ). n.entries + z) c;
+                  fits = omega (arith, k, g.fits);
+                  rows_are = w ∙ ap (λ (z : ℕ). sets rows (6 * n.goals) (start ∷ end ∷ judgment ∷ n.entries ∷ z ∷ 0 ∷ [])) c;
+                }

@@ -1,7 +1,6 @@
 pub mod Abbreviations
 pub mod Assuming
 pub mod Covering
-pub mod Erring
 pub mod GoalLists
 pub mod GoalReads
 pub mod GoalRows

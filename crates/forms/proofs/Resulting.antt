@@ -1,7 +1,8 @@
 -- What `result` answers, question by question, and what the code finds for it. Assumes nothing.
 use mathlib.Core.Path.{◌≡◌, sym, ap, ◌∙◌, subst}
 use mathlib.Core.Bool.{Bool, true, false, not}
-use Rattle.std.specs.Prelude.{Option, Some as some, None as nothing}
+use Rattle.std.specs.Prelude.{Option, Some as some, None as nothing, MatchOption}
+use Rattle.std.specs.Bool.{then_some}
 use mathlib.Core.List.{List}
 use Prim.Native.Nat.{ℕ, ◌+◌, ◌*◌, ◌<◌}
 use native.Mathlib.Omega.{arith}
@@ -122,6 +123,10 @@ module _ {K : Names} {rows facts lists : List ℕ} {n : Sizes} {I W : List ℕ} 
   abbrev answer : Out State (Unit {0})
   answer = result g.xs g.S
 
+  -- whether the row of goal k says that its result has come
+  abbrev row_taken : ℕ → Bool
+  row_taken k = not (eqb (cell 6 rows k 5) 0)
+
   first_halts : {q d : ℕ} → answer ≡ refuse q d g.S → Halts I W I W m g.S answer q d m
   first_halts e = halts_first g.refers.reads.good (refers_ready g.refers) g.store e
 
@@ -148,44 +153,75 @@ module _ {K : Names} {rows facts lists : List ℕ} {n : Sizes} {I W : List ℕ} 
           looked : r ≡ (goal_named g.S.goals named)
           looked = l (made I W m) g.S.goals g.held
 
-          pub no_goal_lem : r ≡ nothing → Halts I W I W m g.S (result g.xs g.S) 50 0 m
+          no_goal_lem : r ≡ nothing → Halts I W I W m g.S (result g.xs g.S) 50 0 m
           no_goal_lem q = first_halts (result_unknown_lem g.xs g.S name_is.1 (sym looked ∙ q))
 
           module _ {k : ℕ} (q : r ≡ some k) where
             is_goal : goal_named g.S.goals named ≡ some k
             is_goal = sym looked ∙ q
 
-            pub goal_there : k < n.goals
+            goal_there : k < n.goals
             goal_there = omega (arith, named_inside g.S.goals named k is_goal, g.held.many)
 
-            -- what the readers of a goal ask
+            -- what `is_taken` asks
             pub goal_asks : GoalAt rows k
             goal_asks = (goals_long g.held, omega (arith, goal_there, g.held.few))
 
             row : GoalRow rows lists (made I W m) g.S.goals k (goal_of g.S k)
             row = goal_row_of k g.refers.recorded g.held goal_there
 
-            module _ {t : Bool} (u : t ≡ not (eqb (cell 6 rows k 5) 0)) where
-              pub goal_taken : t ≡ true → Halts I W I W m g.S (result g.xs g.S) 50 0 m
-              goal_taken v = first_halts (result_twice_lem g.xs g.S name_is.1 is_goal row.is (sym row.taken ∙ sym u ∙ v))
+            goal_taken : row_taken k ≡ true → Halts I W I W m g.S (result g.xs g.S) 50 0 m
+            goal_taken v = first_halts (result_twice_lem g.xs g.S name_is.1 is_goal row.is (sym row.taken ∙ v))
 
-              pub goal_open : t ≡ false → Aiming g k
-              goal_open v =
-                  record {
-                    there = goal_there;
-                    row = row;
-                    on = reopen (result_open g.xs g.S name_is.1 is_goal row.is (sym row.taken ∙ sym u ∙ v));
-                  }
-                where
-                  reopen : result g.xs g.S ≡ then (making (reference g.S (item g.xs 2)) g.S) (after_ref g.xs g.S k (goal_of g.S k)) →
-                      Reached I W m g.S (result g.xs g.S) I W m
-                      (then (making (reference g.S (item g.xs 2)) (with_made g.S (made I W m))) (after_ref g.xs g.S k (goal_of g.S k)))
-                  reopen e =
-                      let s = reached_start g.refers.reads.good (refers_ready g.refers) g.store
-                      (λ T. then (making (reference g.S (item g.xs 2)) T) (after_ref g.xs g.S k (goal_of g.S k))) in
-                      record { makes = s.makes; here = e ∙ s.here }
+            goal_open : row_taken k ≡ false → Aiming g k
+            goal_open v =
+                record {
+                  there = goal_there;
+                  row = row;
+                  on = reopen (result_open g.xs g.S name_is.1 is_goal row.is (sym row.taken ∙ v));
+                }
+              where
+                reopen : result g.xs g.S ≡ then (making (reference g.S (item g.xs 2)) g.S) (after_ref g.xs g.S k (goal_of g.S k)) →
+                    Reached I W m g.S (result g.xs g.S) I W m
+                    (then (making (reference g.S (item g.xs 2)) (with_made g.S (made I W m))) (after_ref g.xs g.S k (goal_of g.S k)))
+                reopen e =
+                    let s = reached_start g.refers.reads.good (refers_ready g.refers) g.store
+                    (λ T. then (making (reference g.S (item g.xs 2)) T) (after_ref g.xs g.S k (goal_of g.S k))) in
+                    record { makes = s.makes; here = e ∙ s.here }
+
+          -- the goal is kept where its result has not come; P: what is known of the test's answer
+          module _ {P : ℕ → Bool → Type 0} (tells : (k : ℕ) (b : Bool) → P k b → b ≡ not (row_taken k)) (p : Option ℕ) where
+            abbrev Tested : Option ℕ → Type 0
+            Tested o = MatchOption o (p ≡ nothing) (λ k. (b : Bool) × P k b × (p ≡ then_some b k))
+
+            ends : (o : Option ℕ) → r ≡ o → Tested o → p ≡ nothing → Halts I W I W m g.S (result g.xs g.S) 50 0 m
+            ends nothing e w z = no_goal_lem e
+            ends (some k) e w z = go w.0 (tells k w.0 w.1) w.2
+              where
+                go : (b : Bool) → b ≡ not (row_taken k) → p ≡ then_some b k → Halts I W I W m g.S (result g.xs g.S) 50 0 m
+                go true u v = absurd (let t : p ≡ some k = v in let q : ◌≡◌ {A = ℕ} 0 1 = cc in omega (arith, q))
+                go false u v = goal_taken e (not-false (row_taken k) (sym u))
+
+            aims : (o : Option ℕ) → r ≡ o → Tested o → {k : ℕ} → p ≡ some k → Aiming g k
+            aims nothing e w {k} z = absurd (let t : p ≡ nothing = w in let q : ◌≡◌ {A = ℕ} 0 1 = cc in omega (arith, q))
+            aims (some i) e w {k} z = go w.0 (tells i w.0 w.1) w.2
+              where
+                go : (b : Bool) → b ≡ not (row_taken i) → p ≡ then_some b i → Aiming g k
+                go true u v = let t : p ≡ some i = v in let q : i ≡ k = cc in subst (Aiming g) q (goal_open e (not-true (row_taken i) (sym u)))
+                go false u v = absurd (let t : p ≡ nothing = v in let q : ◌≡◌ {A = ℕ} 0 1 = cc in omega (arith, q))
+
+            pub none_kept : Tested r → p ≡ nothing → Halts I W I W m g.S (result g.xs g.S) 50 0 m
+            none_kept = ends r (λ i. r)
+
+            pub goal_kept : Tested r → {k : ℕ} → p ≡ some k → Aiming g k
+            goal_kept = aims r (λ i. r)
 
 -- The reference ---------------------------------------------------------------------------------------------------------------------
+
+-- what `goal_judgment` asks
+pub aim_asks : {K : Names} {rows facts lists : List ℕ} {n : Sizes} {I W : List ℕ} {m : Mark} {cells : List ℕ} (g : TakesResult K rows facts lists n I W m cells)
+    {k : ℕ} → Aiming g k → GoalAt rows k
+aim_asks g o = (goals_long g.held, omega (arith, o.there, g.held.few))
 
 module _ {K : Names} {rows facts lists : List ℕ} {n : Sizes} {I W : List ℕ} {m : Mark} {cells : List ℕ} (g : TakesResult K rows facts lists n I W m cells) {behind : List ℕ}
     (c : (ys : Sexps) → cells ≡ encodes ys → behind ≡ drop (place ys 2) cells) where

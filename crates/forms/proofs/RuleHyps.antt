@@ -1,11 +1,11 @@
 -- What `add_rule_hyp` answers: the numbers of its premises come behind its own entry, its generalised variables behind these. Assumes nothing.
 use mathlib.Core.Path.{◌≡◌, refl, sym, ap, ◌∙◌, subst}
-use mathlib.Core.List.{List, ◌++◌}
+use mathlib.Core.List.{List, [], ◌∷◌, ◌++◌}
 use Prim.Native.Nat.{ℕ, ◌+◌, ◌-◌, ◌*◌, ◌≤◌}
 use native.Mathlib.Omega.{arith}
 use lib.ListN.{length, take, drop, replicate}
-use lib.Seq.{sets}
-use Rattle.std.specs.Prelude.{min, Ok, Err, Option, None as nothing}
+use lib.Seq.{sets, length-sets}
+use Rattle.std.specs.Prelude.{min, Result, Ok, Err, Option, None as nothing}
 use Rattle.rules.specs.Limits.{VARIABLES, FACTS, ENTRIES}
 use Rattle.rules.specs.Out.{Out, then, found}
 use Rattle.rules.specs.Sexp.{Sexps, item, count, rest}
@@ -52,6 +52,13 @@ adds_rule xs S ps j U = then (vars_list 36 S (item xs 4) U) (λ vs Y. adds_fact 
 rule_begun : (xs : Sexps) (S : State) → stating xs S (adds_rule xs S) ≡ add_rule_hyp xs S
 unfolding add_rule_hyp then
 rule_begun xs S = refl
+
+-- the lists stay as long
+put_long : (R Q : Records) (n k : Sizes) (judgment premises : ℕ) (general : List ℕ) (o : Result (Unit {0}) Row) → RulePutBy R Q n k judgment premises general o →
+    length Q.lists ≡ length R.lists
+put_long R Q n k judgment premises general (Ok u) p =
+    ap length p.0.0.lists ∙ length-sets (sets R.lists (n.entries + 1 + premises) general) n.entries (n.facts ∷ []) ∙ length-sets R.lists (n.entries + 1 + premises) general
+put_long R Q n k judgment premises general (Err d) p = ap (λ (y : Records). length y.lists) p.0
 
 -- What it is given -----------------------------------------------------------------------------------------------------------------------
 
@@ -158,6 +165,18 @@ module _ {K : Names} {facts lists : List ℕ} {n : Sizes} {I W : List ℕ} {m : 
 
         -- L: the lists with the premises' numbers
         module _ {L : List ℕ} (e : L ≡ tailed lists from out) (Q : Records) (x : Sizes) where
+          -- the tail can be cut
+          pub rule_inside : (o : Result (Unit {0}) Row) → ((footings : List ℕ) → length footings ≡ 4 * FACTS →
+              RulePutBy (records facts footings L) (records Q.facts footings Q.lists) n x r.judgment r.listed (take few general) o) → from ≤ length Q.lists
+          rule_inside o w =
+              omega (
+                arith,
+                put_long (records facts g.footings L) (records Q.facts g.footings Q.lists) n x r.judgment r.listed (take few general) o
+                    (w g.footings (tabled_long (footings_tabled rec))),
+                ap length e ∙ tailed_long lists ENTRIES (lists_long rec) from from_most from_zero out k,
+                from_most,
+              )
+
           pub rule_added : {u : Unit {0}} → ((footings : List ℕ) → length footings ≡ 4 * FACTS →
               RulePutBy (records facts footings L) (records Q.facts footings Q.lists) n x r.judgment r.listed (take few general) (Ok u)) →
               HypAdded (records facts g.footings lists) (records Q.facts g.footings Q.lists) n I W J X m g.S (add_rule_hyp g.xs g.S) x.entries new

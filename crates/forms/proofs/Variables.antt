@@ -15,9 +15,9 @@ use Rattle.rules.specs.Text.{same}
 use Rattle.rules.specs.Lex.{letters}
 use Rattle.rules.specs.Out.{Out, ok, refuse, then, ask, room, found}
 use Rattle.rules.specs.Sexp.{Sexp, Sexps, atom, list, item, rest, Name, name, marked}
-use Rattle.rules.specs.Theory.{Theory, no_name, sort_named, constructor_named, predicate_named}
+use Rattle.rules.specs.Theory.{Theory, no_name, sort_named}
 use Rattle.rules.specs.Declare.{is_new}
-use Rattle.rules.specs.State.{State, Var, var_named}
+use Rattle.rules.specs.State.{State, Var}
 use Rattle.rules.specs.Forms.{with_vars, add_var}
 use Rattle.rules.specs.Laws.Find.{first_some}
 use Rattle.sexp.specs.Encode.{encodes}
@@ -36,7 +36,7 @@ use Rattle.state.specs.declared.sizes.Sizes.{Sizes}
 use Rattle.state.specs.Held.{VarsHeld}
 use Rattle.state.specs.Rows.{VarAt, Fits4}
 use Rattle.state.specs.VarLaws.{vars_long}
-use Rattle.forms.specs.Declares.{AddsVar, VarAdded}
+use Rattle.forms.specs.Declares.{unused, AddsVar, VarAdded}
 use Rattle.std.proofs.Math.Bool.{and_assoc}
 
 -- Names that are used ---------------------------------------------------------------------------------------------------------------
@@ -73,10 +73,6 @@ not_both x y z e f = f ∙ ap (λ (w : Bool). w && z) (sym f ∙ e) ∙ and_asso
 
 -- The definition --------------------------------------------------------------------------------------------------------------------
 
--- no constructor, predicate or variable has the name
-abbrev pub free : State → List ℕ → Bool
-free S bs = is_new (constructor_named S.theory bs) && (is_new (predicate_named S.theory bs) && is_new (var_named S.vars bs))
-
 abbrev pub new_var : ℕ → ℕ → ℕ → List ℕ → Var
 new_var k which p bs = record { sort = k; text = which; name = record { start = p; bytes = bs } }
 
@@ -88,12 +84,12 @@ module _ (which : ℕ) (xs : Sexps) (S : State) where
   asked k n m b = then (ask 21 (not m && b) S) (λ _ U. then (room 7 (ltb (length S.vars) VARIABLES) U) (λ _ Y. ok tt (with_vars S (S.vars ++ (record { sort = k; text = which; name = n } ∷ [])))))
 
   abbrev sorted : Name → Option ℕ → Out State (Unit {0})
-  sorted n o = then (found 21 o S) (λ k U. then (ask 21 (not (marked n.bytes) && free S n.bytes) U)
+  sorted n o = then (found 21 o S) (λ k U. then (ask 21 (not (marked n.bytes) && unused S n.bytes) U)
       (λ _ Y. then (room 7 (ltb (length S.vars) VARIABLES) Y) (λ _ Z. ok tt (with_vars S (S.vars ++ (record { sort = k; text = which; name = n } ∷ []))))))
 
   abbrev named : Sexp → Sexp → Out State (Unit {0})
   named x y = then (name 21 x S) (λ n T. then (name 21 y T) (λ s U. then (found 21 (sort_named S.theory s.bytes) U) (λ k Y.
-      then (ask 21 (not (marked n.bytes) && free S n.bytes) Y)
+      then (ask 21 (not (marked n.bytes) && unused S n.bytes) Y)
       (λ _ Z. then (room 7 (ltb (length S.vars) VARIABLES) Z) (λ _ Q. ok tt (with_vars S (S.vars ++ (record { sort = k; text = which; name = n } ∷ []))))))))
 
   pub var_unnamed : {ys : Sexps} → item xs 1 ≡ list ys → add_var which xs S ≡ refuse 21 0 S
@@ -115,20 +111,20 @@ module _ (which : ℕ) (xs : Sexps) (S : State) where
       var_unsorted e = var_sorting ∙ ap (sorted (record { start = p; bytes = bs })) e
 
       module _ {k : ℕ} (s : sort_named S.theory ss ≡ some k) where
-        var_asking : add_var which xs S ≡ asked k (record { start = p; bytes = bs }) (marked bs) (free S bs)
+        var_asking : add_var which xs S ≡ asked k (record { start = p; bytes = bs }) (marked bs) (unused S bs)
         unfolding then
         var_asking = var_sorting ∙ ap (sorted (record { start = p; bytes = bs })) s
 
         pub var_marked_lem : marked bs ≡ true → add_var which xs S ≡ refuse 21 0 S
         unfolding then
-        var_marked_lem e = var_asking ∙ ap (λ (z : Bool). asked k (record { start = p; bytes = bs }) z (free S bs)) e
+        var_marked_lem e = var_asking ∙ ap (λ (z : Bool). asked k (record { start = p; bytes = bs }) z (unused S bs)) e
 
         module _ (m : marked bs ≡ false) where
-          pub var_used : free S bs ≡ false → add_var which xs S ≡ refuse 21 0 S
+          pub var_used : unused S bs ≡ false → add_var which xs S ≡ refuse 21 0 S
           unfolding then
           var_used e = var_asking ∙ (λ i. asked k (record { start = p; bytes = bs }) (m i) (e i))
 
-          module _ (f : free S bs ≡ true) where
+          module _ (f : unused S bs ≡ true) where
             var_rooming : add_var which xs S ≡ roomed k (record { start = p; bytes = bs }) (ltb (length S.vars) VARIABLES)
             unfolding then
             var_rooming = var_asking ∙ (λ i. asked k (record { start = p; bytes = bs }) (m i) (f i))
@@ -160,6 +156,9 @@ module _ {theory goals text sorts symbols vars : List ℕ} {n : Sizes} {cells : 
     module _ {start : ℕ} (e : x ≡ Atom start) where
       pub var_name_lem : AtomText text (item g.xs 1) start
       var_name_lem = nth_text g.holds 1 a e
+
+      abbrev end : ℕ
+      end = start + length (letters (drop start text))
 
       module _ {behind : List ℕ} (b : (ys : Sexps) → cells ≡ encodes ys → behind ≡ drop (place ys 2) cells) where
         pub var_sort_held : Held text behind
@@ -198,12 +197,11 @@ module _ {theory goals text sorts symbols vars : List ℕ} {n : Sizes} {cells : 
                 pub var_is_marked : (which : ℕ) {b : Bool} → b ≡ marked (letters (drop start text)) → b ≡ true → add_var which g.xs g.S ≡ refuse 21 0 g.S
                 var_is_marked which m t = var_marked_lem which g.xs g.S var_name_lem.is var_sort_text.1 sort_is (sym m ∙ t)
 
-                module _ {mk : Bool} (m : mk ≡ marked (letters (drop start text))) (no : mk ≡ false)
-                    {end : ℕ} (d : end ≡ start + length (letters (drop start text))) {u : Bool}
-                    (v : (S : State) (inputs : List ℕ) → SymbolsHeld theory symbols inputs n.symbols S.theory.symbols → VarsHeld goals text vars n.vars S.vars →
-                    u ≡ free S (take (end - start) (drop start text))) where
-                  free_told : u ≡ free g.S (letters (drop start text))
-                  free_told = v g.S g.inputs g.symbols_are g.vars_are ∙ ap (free g.S) (atom_part text start end var_name_lem.inside d)
+                module _ {mk : Bool} (m : mk ≡ marked (letters (drop start text))) (no : mk ≡ false) {u : Bool}
+                    (v : (S : State) → (inputs : List ℕ) × SymbolsHeld theory symbols inputs n.symbols S.theory.symbols × VarsHeld goals text vars n.vars S.vars →
+                    u ≡ unused S (take (end - start) (drop start text))) where
+                  free_told : u ≡ unused g.S (letters (drop start text))
+                  free_told = v g.S (g.inputs, g.symbols_are, g.vars_are) ∙ ap (unused g.S) (atom_part text start end var_name_lem.inside refl)
 
                   pub var_is_used : (which : ℕ) → u ≡ false → add_var which g.xs g.S ≡ refuse 21 0 g.S
                   var_is_used which t = var_used which g.xs g.S var_name_lem.is var_sort_text.1 sort_is (sym m ∙ no) (sym free_told ∙ t)
@@ -220,7 +218,7 @@ module _ {theory goals text sorts symbols vars : List ℕ} {n : Sizes} {cells : 
                       record {
                         first = var_sort_small;
                         second = omega (arith, var_name_lem.inside, g.short);
-                        third = omega (arith, atom_high text start end var_name_lem.inside d, g.short);
+                        third = omega (arith, atom_high text start end var_name_lem.inside refl, g.short);
                         fourth = omega arith;
                       },
                     )
@@ -236,6 +234,6 @@ module _ {theory goals text sorts symbols vars : List ℕ} {n : Sizes} {cells : 
                           room = q;
                           of_text = refl;
                           named = atom_named text start var_name_lem.inside;
-                          ends = d;
+                          ends = refl;
                           cells = o;
                         }

@@ -1,11 +1,13 @@
 -- What the forms that declare a variable or an abbreviation are given and what they answer, beside what the definition answers: K. Assumes nothing.
-use Rattle.std.specs.Prelude.{◌≡◌, List, [], ◌∷◌, ◌++◌, ℕ, ◌+◌, ◌*◌, ◌<◌, ◌≤◌, length, Result, Ok, Err}
+use Rattle.std.specs.Prelude.{◌≡◌, Bool, ◌&&◌, List, [], ◌∷◌, ◌++◌, ℕ, ◌+◌, ◌*◌, ◌<◌, ◌≤◌, length, Result, Ok, Err}
 use Rattle.std.proofs.lemmas.List.Edits.{sets}
 use Rattle.rules.specs.Limits.{LENGTH, VARIABLES, DEFS}
 use Rattle.rules.specs.Out.{Out, ok, refuse}
 use Rattle.rules.specs.Sexp.{Sexps, count}
 use Rattle.rules.specs.Store.{number}
-use Rattle.rules.specs.State.{State, Var, Def}
+use Rattle.rules.specs.Theory.{constructor_named, predicate_named}
+use Rattle.rules.specs.Declare.{is_new}
+use Rattle.rules.specs.State.{State, Var, Def, var_named}
 use Rattle.rules.specs.Forms.{with_made, with_vars, with_defs}
 use Rattle.rules.specs.Laws.Sound.{In}
 use Rattle.sexp.specs.Items.{Holds}
@@ -25,6 +27,10 @@ use Rattle.forms.specs.declared.declare.Abbreviation.{Abbreviation}
 use Rattle.forms.specs.Halted.{Makes, Halts}
 
 -- Variables ------------------------------------------------------------------------------------------------------------------------
+
+-- whether no constructor, predicate or variable has the name
+abbrev pub unused : State → List ℕ → Bool
+unused S name = is_new (constructor_named S.theory name) && (is_new (predicate_named S.theory name) && is_new (var_named S.vars name))
 
 -- sorts, symbols and variables in their tables, and the items of a form
 pub record AddsVar (theory goals text sorts symbols vars : List ℕ) (n : Sizes) (cells : List ℕ) : Type 0 where

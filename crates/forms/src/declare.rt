@@ -1,18 +1,12 @@
 // `(var NAME SORT)` and `(def ?NAME TERM)`: questions 21 and 33.
-ghost use Rattle.std.specs.Prelude.{◌≡◌, ◌&&◌, List, ℕ};
-ghost use Rattle.rules.specs.Theory.{constructor_named, predicate_named};
-ghost use Rattle.rules.specs.Declare.{is_new};
-ghost use Rattle.rules.specs.State.{State, var_named};
+ghost use Rattle.std.specs.Prelude.{◌≡◌};
+ghost use Rattle.rules.specs.State.{State};
 ghost use Rattle.rules.specs.Forms.{add_var, add_def};
 ghost use Rattle.questions.specs.Numbers.{text_number};
-ghost use Rattle.kernel.specs.Held.{SymbolsHeld};
-ghost use Rattle.kernel.specs.Readers.{NamedSymbols};
 ghost use Rattle.terms.specs.Lent.{SameTables};
 ghost use Rattle.state.specs.Boards.{SameBoard, OnlyVars, OnlyDefs};
-ghost use Rattle.state.specs.Held.{VarsHeld};
-ghost use Rattle.state.specs.Rows.{SomeVars};
-ghost use Rattle.forms.specs.Boards.{AddsVarIn, ReadsFormIn};
-ghost use Rattle.forms.specs.Declares.{VarAs, NamedAs, DefAs};
+ghost use Rattle.forms.specs.Boards.{LooksUp, KnownIn, AddsVarIn, ReadsFormIn};
+ghost use Rattle.forms.specs.Declares.{unused, VarAs, NamedAs, DefAs};
 
 use cells::Span;
 use kernel::atoms::marked;
@@ -29,10 +23,8 @@ use terms::store::Store;
 
 // Whether no constructor, predicate or variable has these bytes for a name.
 fn is_unused(given: &Given<'_>, board: &Board<'_>, name: &[u8]) -> bool
-    requires { let g = given.now in let b = board.now in NamedSymbols g.theory.now g.symbols.now b.n.symbols × SomeVars g.goals.now g.text.now b.vars.now b.n.vars }
-    ensures { let g = given.now in let b = board.now in (S : State) (inputs : List ℕ) → SymbolsHeld g.theory.now g.symbols.now inputs b.n.symbols S.theory.symbols →
-        VarsHeld g.goals.now g.text.now b.vars.now b.n.vars S.vars →
-        result ≡ is_new (constructor_named S.theory name.now) && (is_new (predicate_named S.theory name.now) && is_new (var_named S.vars name.now)) }
+    requires { LooksUp given.now board.now }
+    ensures { (S : State) → KnownIn given.now board.now S → result ≡ unused S name.now }
 {
     let reader = reader_of(given, board);
     let symbols = reader.symbol_table();
@@ -69,8 +61,7 @@ pub fn add_var(
     if marked(bytes, start) {
         return Err(Question::Variable);
     }
-    let end = lex::atom_end(bytes, start);
-    let name = Span { from: start, end };
+    let name = lex::atom_span(bytes, start);
     if !is_unused(given, board, name.of(bytes)) {
         return Err(Question::Variable);
     }
@@ -108,12 +99,11 @@ fn new_def(
     if !marked(text, start) {
         return Err(Question::Defined);
     }
-    let end = lex::atom_end(text, start);
-    if end < start + 2 {
+    let name = lex::atom_span(text, start);
+    if name.end < start + 2 {
         return Err(Question::Defined);
     }
     let typed = reader_of(given, board).term(store, items::from(cells, 2))?;
-    let name = Span { from: start, end };
     if def_named(text, board.defs, board.n.defs, name.of(text)).is_some() {
         return Err(Question::Defined);
     }

@@ -8,18 +8,18 @@ ghost use Rattle.rules.specs.Tree.{Tree, Trees, count_trees};
 ghost use Rattle.rules.specs.Forms.{goal, add_goal};
 ghost use Rattle.terms.specs.Lent.{SameTables};
 ghost use Rattle.state.specs.Boards.{SameBoard, OnlyRows, OnlyGoals};
-ghost use Rattle.forms.specs.Boards.{AddsGoalIn};
-ghost use Rattle.forms.specs.Goals.{GoalPlace, PlacedAs, AimedAs};
+ghost use Rattle.forms.specs.Boards.{GoalPlaceIn, AddsGoalIn};
+ghost use Rattle.forms.specs.Goals.{PlacedAs, AimedAs};
 
 use crate::stating::{Stated, read_stated};
-use cells::{Span, or_cleared};
+use cells::or_cleared;
 use questions::{Question, Row};
 use reading::reader::reader_of;
 use rules::{ENTRIES, GOALS};
 use sexp::items::Item;
 use sexp::{items, lex};
 use state::board::{Board, Given};
-use state::goals::{goal_named, put_goal};
+use state::goals::put_goal;
 use terms::store::Store;
 
 // The name, rows 11 and 13, and the row, by the items of the form; the numbers of so many hypotheses stand behind the entries already, as far as there
@@ -30,32 +30,32 @@ fn place_goal(
     cells: &[u32],
     stated: Stated,
 ) -> Result<(), Question>
-    requires { GoalPlace given.now.text.now board.old.rows.now board.old.n cells.now × (stated.judgment < 2 ^ 32) }
+    requires { GoalPlaceIn given.now board.old cells.now × (stated.judgment < 2 ^ 32) }
     ensures same_board { SameBoard board.old board.new }
     ensures only { OnlyRows board.old board.new }
-    ensures placed_as { (g : GoalPlace given.now.text.now board.old.rows.now board.old.n cells.now) (hs : Trees) (j : Tree) → stated.listed ≡ count_trees hs →
+    ensures placed_as { (g : GoalPlaceIn given.now board.old cells.now) (hs : Trees) (j : Tree) → stated.listed ≡ count_trees hs →
         PlacedAs given.now board.old board.new stated.judgment g.S hs j (add_goal (item g.xs 1) hs j g.S) result }
 {
     let Item::Atom(start) = items::nth(cells, 1) else {
         return Err(Question::GoalName);
     };
     let text = given.text;
-    let end = lex::atom_end(text, start);
-    let name = Span { from: start, end };
+    let name = lex::atom_span(text, start);
     let n = board.n;
-    let rows = &mut *board.rows;
-    if goal_named(text, rows, n.goals, name.of(text)).is_some() {
+    let known = board.goal_table().named(text, name.of(text));
+    if known.is_some() {
         return Err(Question::GoalName);
     }
     if n.goals >= GOALS {
         return Err(Question::Room(Row::Goals));
     }
+    // not by `recorded::room`: that asks for room of one fact more first, and a goal needs none
     let room = ENTRIES - n.entries;
     if room < stated.listed {
         return Err(Question::Room(Row::Entries));
     }
     put_goal(
-        rows,
+        board.rows,
         n.goals,
         name,
         stated.judgment,

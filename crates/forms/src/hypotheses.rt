@@ -1,20 +1,14 @@
 // `(hyp N JUDGMENT)` and `(hyp N (PREMISE...) JUDGMENT (VAR...))`: facts that are assumed, each resting on itself.
-ghost use Rattle.state.specs.Records.{fact_rows};
-ghost use Rattle.std.specs.Prelude.{◌≡◌, List, ℕ, ◌*◌, ◌≤◌, length, replicate};
-ghost use Rattle.rules.specs.Limits.{VARIABLES, FACTS};
-ghost use Rattle.rules.specs.Sexp.{item, count};
+ghost use Rattle.std.specs.Prelude.{◌≡◌, List, ℕ, ◌*◌, length};
+ghost use Rattle.rules.specs.Limits.{FACTS};
 ghost use Rattle.rules.specs.Forms.{add_hyp, add_rule_hyp};
 ghost use Rattle.terms.specs.Lent.{SameTables};
 ghost use Rattle.state.specs.Boards.{SameBoard, OnlyHyps};
-ghost use Rattle.state.specs.Held.{records};
-ghost use Rattle.state.specs.Rows.{Putting};
-ghost use Rattle.reading.specs.Given.{VarsItems};
-ghost use Rattle.reading.specs.Answers.{VarsAs};
-ghost use Rattle.forms.specs.Boards.{AddsFactIn};
+ghost use Rattle.forms.specs.Boards.{AddsFactIn, PutsIn};
 ghost use Rattle.forms.specs.Assumed.{AssumedAs, RulePutAs};
 
 use crate::stating::read_stated;
-use cells::{clear, or_cleared, write};
+use cells::{or_cleared, write};
 use questions::{Question, Row};
 use reading::reader::reader_of;
 use rules::VARIABLES;
@@ -44,22 +38,6 @@ pub fn add_hyp(
     Ok(())
 }
 
-// The generalised variables, which item 4 of the form lists, come into the cells, which are zero before; how many they are. The cells are lent:
-// there is no heap, and the core stands on `std` alone, which has no vector without one.
-fn general_vars(
-    given: &Given<'_>,
-    board: &Board<'_>,
-    cells: &[u32],
-    general: &mut [u32],
-) -> Option<usize>
-    requires items { let b = board.now in (g : VarsItems given.now.goals.now given.now.text.now b.vars.now b.n.vars cells.now) × (5 ≤ count g.xs) }
-    requires zero { general.old ≡ replicate VARIABLES 0 }
-    ensures { let b = board.now in (g : VarsItems given.now.goals.now given.now.text.now b.vars.now b.n.vars cells.now) → 5 ≤ count g.xs →
-        VarsAs g.S.vars (item g.xs 4) general.old general.new result }
-{
-    reader_of(given, board).vars_list(items::from(cells, 4), general)
-}
-
 // A hypothesis behind the others; so many premises stand behind its own entry already, as far as there is room, and the generalised variables come
 // behind these. The room is asked before they are written, though `put_hypothesis` asks it again: with its asking alone they would be written as far as
 // there is room, and a refusal would have to say what is left of them.
@@ -69,7 +47,7 @@ fn put_rule(
     premises: usize,
     general: &[u32],
 ) -> Result<(), Row>
-    requires { (footings : List ℕ) × Putting (records (fact_rows board.old.facts.now) footings board.old.lists.now) board.old.n judgment }
+    requires { PutsIn board.old judgment }
     ensures same_board { SameBoard board.old board.new }
     ensures only { OnlyHyps board.old board.new }
     ensures put_as { (footings : List ℕ) → length footings ≡ 4 * FACTS → RulePutAs board.old board.new footings judgment premises general.now result }
@@ -103,13 +81,12 @@ pub fn add_rule_hyp(
     // behind its own entry, as far as there is room
     let from = lists.len().min(n.entries + 1);
     let stated = read_stated(given, vars, defs, n, store, cells, &mut lists[from..])?;
+    // the variables that it generalises, which item 4 lists
+    let own = *given;
     let mut general = [0u32; VARIABLES];
-    let listed = general_vars(given, board, cells, &mut general).ok_or(Question::Binding);
-    let many = or_cleared(listed, &mut board.lists[from..])?;
+    let listed = reader_of(&own, board).vars_list(items::from(cells, 4), &mut general);
+    let many = or_cleared(listed.ok_or(Question::Binding), &mut board.lists[from..])?;
     let put = put_rule(board, stated.judgment, stated.listed, &general[..many]);
-    // no `or_cleared`: how long the lists are behind `put_rule` is known in the arm of its refusal alone, and the cut for it would be made before
-    if put.is_err() {
-        clear(&mut board.lists[from..]);
-    }
-    Ok(put?)
+    or_cleared(put, &mut board.lists[from..])?;
+    Ok(())
 }

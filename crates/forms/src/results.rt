@@ -13,8 +13,8 @@ ghost use Rattle.terms.specs.Sets.{holds};
 ghost use Rattle.state.specs.Boards.{SameBoard, OnlyRows};
 ghost use Rattle.state.specs.Rows.{cell, FactAt, plain_row};
 ghost use Rattle.referring.specs.Recall.{fact_of};
-ghost use Rattle.forms.specs.Boards.{TakesResultIn};
-ghost use Rattle.forms.specs.Results.{goal_of, ListsHyps, Covers, MetAs, ResultedAs};
+ghost use Rattle.forms.specs.Boards.{CoversIn, TakesResultIn};
+ghost use Rattle.forms.specs.Results.{goal_of, ListsHyps, MetAs, ResultedAs};
 
 use facts::Fact;
 use questions::Question;
@@ -23,7 +23,7 @@ use referring::source::{Facts, source_of};
 use rules::TERMWORDS;
 use sexp::items;
 use state::board::{Board, Given};
-use state::goals::{goal_hyps, goal_judgment, goal_named, is_taken, take_goal};
+use state::goals::{goal_hyps, goal_judgment, is_taken, take_goal};
 use state::recorded::{is_plain, judgment};
 use terms::sets::has;
 use terms::store::Store;
@@ -47,8 +47,8 @@ fn all_listed(facts: &[Fact], hyps: &[u32], terms: &[u64; TERMWORDS]) -> bool
 
 // Question 51: whether goal k lists each hypothesis of fact i, on which a reference rests that names it bare.
 fn covers(facts: &Facts<'_>, goals: &[u32], k: usize, i: usize) -> bool
-    requires { Covers goals.now (fact_rows facts.now.records.now) facts.now.lists.now k i }
-    ensures { (g : Covers goals.now (fact_rows facts.now.records.now) facts.now.lists.now k i) →
+    requires { CoversIn goals.now facts.now k i }
+    ensures { (g : CoversIn goals.now facts.now k i) →
         result ≡ all (λ h. listed (goal_of g.S k).hyps (entry g.S.facts h)) (fact_of g.S i).hyps }
 {
     let mut terms = [0u64; TERMWORDS];
@@ -73,10 +73,11 @@ fn met(
     ensures memo_unchanged { memo.new ≡ memo.old }
 {
     let name = items::head(given.text, items::from(cells, 1)).ok_or(Question::ResultName)?;
-    let k = goal_named(given.goals, board.rows, board.n.goals, name).ok_or(Question::ResultName)?;
-    if is_taken(board.rows, k) {
-        return Err(Question::ResultName);
-    }
+    let k = board
+        .goal_table()
+        .named(given.goals, name)
+        .filter(|k| !is_taken(board.rows, *k))
+        .ok_or(Question::ResultName)?;
     let source = source_of(given, board);
     let found = source.reference(store, items::from(cells, 2), memo)?;
     let facts = source.facts();

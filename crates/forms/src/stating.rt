@@ -4,8 +4,7 @@ ghost use Rattle.rules.specs.Tree.{Tree, Trees};
 ghost use Rattle.rules.specs.Out.{Out};
 ghost use Rattle.rules.specs.State.{State};
 ghost use Rattle.terms.specs.Lent.{SameTables};
-ghost use Rattle.state.specs.Held.{names};
-ghost use Rattle.forms.specs.Halted.{ReadsForm};
+ghost use Rattle.forms.specs.Boards.{ReadsApart};
 ghost use Rattle.forms.specs.Stating.{stating, StatedAs};
 
 use cells::or_cleared;
@@ -25,7 +24,8 @@ pub struct Stated {
 
 // The judgments that item 2 of a form lists, and the judgment that is item 3. The numbers of those listed come into the cells `out` as far as there are
 // any; these are zero before, and again where a form is refused. They are part of the board's lists, so that the tables of names come apart from it: of a
-// whole board it would have to be said besides that its other tables, and the front of the lists, are as they were.
+// whole board it would have to be said besides that its other tables, and the front of the lists, are as they were. With a `Reader` for the first four, from
+// one maker with `reader_of`, `add_goal_with` did not close: that variables and abbreviations are as they were is not known once that loan ends (`only`).
 pub fn read_stated(
     given: &Given<'_>,
     vars: &[u32],
@@ -35,10 +35,10 @@ pub fn read_stated(
     cells: &[u32],
     out: &mut [u32],
 ) -> Result<Stated, Question>
-    requires reads_form { let g = given.now in ReadsForm (names g.theory.now g.goals.now g.text.now g.symbols.now g.inputs.now vars.now defs.now) n store.old.index.now store.old.words.now store.old.mark cells.now 4 }
+    requires reads_form { ReadsApart given.now vars.now defs.now n store.old cells.now 4 }
     requires out_value { out.old ≡ replicate (length out.old) 0 }
     ensures same_tables { SameTables store.old store.new }
-    ensures stated_as { let v = given.now in (g : ReadsForm (names v.theory.now v.goals.now v.text.now v.symbols.now v.inputs.now vars.now defs.now) n store.old.index.now store.old.words.now store.old.mark cells.now 4) →
+    ensures stated_as { (g : ReadsApart given.now vars.now defs.now n store.old cells.now 4) →
         (next : Trees → Tree → State → Out State (Unit {0})) → StatedAs store.old store.new g.S (stating g.xs g.S next) next out.old out.new result }
 {
     let reader = Reader {

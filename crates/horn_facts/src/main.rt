@@ -22,9 +22,7 @@ fn run(rt: &HostRuntime) -> io::Result<()> {
     }
 }
 
-// The status is 0 whatever comes.
+// The status is 0 whatever comes, and what cannot be written is left out.
 fn main(rt: HostRuntime) {
-    if let Err(error) = run(&rt) {
-        let _ = eprintln!(rt; "horn_facts: {error}");
-    }
+    let _ = run(&rt);
 }

@@ -36,7 +36,7 @@ use Rattle.terms.specs.Sets.{holds}
 use Rattle.state.specs.declared.sizes.Sizes.{Sizes}
 use Rattle.state.specs.Held.{Names}
 use Rattle.reading.specs.Items.{FirstItem, index_in, index_found}
-use Rattle.reading.proofs.Missing.{there, absent}
+use Rattle.kernel.proofs.Missing.{there, absent}
 use Rattle.referring.specs.Laws.Behind.{from_holds}
 use Rattle.induction.specs.Inducing.{judgment_first, keep_case, at_constructor, case_fact, case_terms, CaseNames, Named, CaseItem, CaseRead}
 use Rattle.rules.specs.Laws.Sexp.{rest_none}

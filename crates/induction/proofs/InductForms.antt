@@ -25,7 +25,7 @@ use denote.Ref.{Bor}
 use Rattle.sexp.specs.Items.{Holds}
 use Rattle.sexp.specs.WalkLaws.{AtomIs}
 use Rattle.sexp.specs.Each.{ListIn, ListOf}
-use Rattle.reading.proofs.Missing.{there, absent}
+use Rattle.kernel.proofs.Missing.{there, absent}
 use Rattle.terms.specs.declared.store.Mark.{Mark}
 use Rattle.terms.specs.Table.{Below, made, tree, args_of}
 use Rattle.terms.specs.Sets.{holds}

@@ -38,7 +38,7 @@ use Rattle.reading.specs.Given.{FactsItem}
 use Rattle.reading.specs.Answers.{HypsRead}
 use Rattle.referring.specs.declared.support.Derived.{Derived}
 use Rattle.referring.specs.Derived.{FactForm, DerivedBy, alone}
-use Rattle.reading.proofs.Missing.{there, absent, question_is}
+use Rattle.kernel.proofs.Missing.{there, absent, question_is}
 use Rattle.referring.specs.Laws.Behind.{from_holds}
 use Rattle.induction.specs.Inducing.{SubjectItems, SubjectAs, InductForm}
 use Rattle.reading.specs.Laws.Lists.{variable_below, listed_rises}
@@ -171,9 +171,7 @@ module _ {K : Names} {facts footings lists : List ℕ} {n : Sizes} {I W : List �
           (then (hyp_list is_plain g.S (item g.xs 3) (made I W m)) (λ hs N. induct_on g.S x hs (item g.xs 4) (item g.xs 5) N))
       chosen = on_found_some _ 36 begin_with named
 
-      pub hyps_refused : {before set : List ℕ} {q d : ℕ} →
-          ((h : FactsItem K.text facts n behind) →
-          ((M : Made) → hyp_list is_plain h.S h.x M ≡ refuse q d M) × ((set ≡ before) × (d ≡ 0))) →
+      pub hyps_refused : {q d : ℕ} → ((h : FactsItem K.text facts n behind) → ((M : Made) → hyp_list is_plain h.S h.x M ≡ refuse q d M) × (d ≡ 0)) →
           Stopped I W I W m (induct_with g.S g.xs (made I W m)) q d m
       hyps_refused c = on_stop _ chosen ((c hyps_asked).0 (made I W m))
 

@@ -17,6 +17,7 @@ use Rattle.questions.specs.declared.Row.{Row}
 use Rattle.questions.specs.declared.Question.{Question}
 use Rattle.questions.specs.declared.Question.TheVariants.{Binding}
 use Rattle.terms.specs.declared.store.Mark.{Mark}
+use Rattle.terms.specs.declared.store.Terms.{Terms}
 use Rattle.terms.specs.declared.store.Store.{Store}
 use Rattle.terms.specs.Table.{Below, made, tree, args_of, Good}
 use Rattle.terms.specs.Node.{same_words}
@@ -64,6 +65,9 @@ pub record Motived (I W : List ℕ) (m : Mark) (x j : ℕ) (premises : List ℕ)
 
 abbrev pub MotivedIn : Store → Statement → Type 0
 MotivedIn s a = Motived s.index.now s.words.now s.mark a.x a.judgment a.premises.now
+
+abbrev pub MotivedTerms : Terms → Statement → Type 0
+MotivedTerms t a = Motived t.index.now t.words.now t.mark a.x a.judgment a.premises.now
 
 -- Substitution -----------------------------------------------------------------------------------------------------------------------
 
@@ -186,6 +190,14 @@ pub record Resting (facts lists : List ℕ) (n : Sizes) (plain used : List ℕ) 
 
 abbrev pub RestingIn : Facts → Allowed → Type 0
 RestingIn f a = Resting (fact_rows f.records.now) f.lists.now f.n a.plain.now a.used.now a.x a.rows.width a.rows.cells.now
+
+-- its terms, and the induction hypotheses
+module _ {facts lists : List ℕ} {n : Sizes} {plain used : List ℕ} {x k : ℕ} {ids : List ℕ} (g : Resting facts lists n plain used x k ids) where
+  abbrev pub made_in : Made
+  made_in = made g.I g.W g.m
+
+  abbrev pub hyps_given : List Hyp
+  hyps_given = hyps_in made_in k g.many ids
 
 -- the same before the judgments of the induction hypotheses are in the set; the case's judgment is there
 pub record BeforeRest (facts lists : List ℕ) (n : Sizes) (plain used : List ℕ) (x k : ℕ) (ids : List ℕ) (j : ℕ) : Type 0 where

@@ -3,7 +3,7 @@ ghost use Rattle.std.specs.Prelude.{◌≡◌, suc, ◌+◌, ◌*◌, ◌<◌, �
 ghost use Rattle.rules.specs.Limits.{VARIABLES, TERMS};
 ghost use Rattle.rules.specs.Tree.{app};
 ghost use Rattle.rules.specs.Induct.{hypothesis_at, hypotheses};
-ghost use Rattle.terms.specs.Table.{Below, args_of, tree};
+ghost use Rattle.terms.specs.Table.{Below};
 ghost use Rattle.terms.specs.Lent.{SameTables, KeptAs, made_of};
 ghost use Rattle.terms.specs.Subst.{replacement};
 ghost use Rattle.induction.specs.Inducing.{motive_of, MotivedIn, CasingIn, MovableIn, MovedAs, judgment_first, premises_first, var_trees, keep_case, at_constructor, HypsMadeAs};
@@ -54,8 +54,8 @@ impl Motive<'_> {
     ) -> Result<usize, Row>
         requires { MovableIn store.old self.now map.now memo.old out.old }
         ensures same_tables { SameTables store.old store.new }
-        ensures moved_as { let M = made_of store.old in let s = store.old in
-            MovedAs s store.new (judgment_first (replacement M map.now) (tree s.index.now s.words.now s.mark self.now.judgment) (args_of M self.now.premises.now) M) out.new result }
+        ensures moved_as { let M = made_of store.old in let P = motive_of M self.now in
+            MovedAs store.old store.new (judgment_first (replacement M map.now) P.judgment P.premises M) out.new result }
         ensures memo_unchanged { memo.new ≡ memo.old }
     {
         let t = substitute(store, map, memo, self.judgment)?;
@@ -73,8 +73,8 @@ impl Motive<'_> {
     ) -> Result<usize, Row>
         requires { MovableIn store.old self.now map.now memo.old out.old }
         ensures same_tables { SameTables store.old store.new }
-        ensures moved_as { let M = made_of store.old in let s = store.old in
-            MovedAs s store.new (premises_first (replacement M map.now) (tree s.index.now s.words.now s.mark self.now.judgment) (args_of M self.now.premises.now) M) out.new result }
+        ensures moved_as { let M = made_of store.old in let P = motive_of M self.now in
+            MovedAs store.old store.new (premises_first (replacement M map.now) P.judgment P.premises M) out.new result }
         ensures memo_unchanged { memo.new ≡ memo.old }
     {
         substitute_all(store, map, memo, self.premises, out)?;

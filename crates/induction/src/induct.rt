@@ -11,7 +11,7 @@ ghost use Rattle.terms.specs.Sets.{holds};
 ghost use Rattle.referring.specs.Recall.{judgment_cells};
 ghost use Rattle.referring.specs.Sources.{ReadsForm};
 ghost use Rattle.referring.specs.Derived.{DerivedAs, alone};
-ghost use Rattle.induction.specs.Inducing.{Blank, Roomy, motive_of, Motived, on_motive, ReadsMotive, ReadsInduct, ReadsSubject, SubjectAs};
+ghost use Rattle.induction.specs.Inducing.{Blank, Roomy, motive_of, MotivedTerms, on_motive, ReadsMotive, ReadsInduct, ReadsSubject, SubjectAs};
 ghost use Rattle.reading.specs.Answers.{PassedAs};
 
 use crate::induct_cases::induct_cases;
@@ -46,7 +46,7 @@ fn read_subject(reader: &Reader<'_>, cells: &[u32]) -> Result<usize, Question>
 }
 
 // The judgments of the facts, by rising number, come into the first cells of `out`, as there is no heap for a list; what is answered is how many they are.
-// The numbers are written out and replaced where they stand: with an iterator over the set, the cells that are filled would be counted by hand.
+// The numbers are written out and replaced where they stand: `terms::sets` writes out the members of a set, and has no iterator over them.
 fn judgments_of(facts: &[Fact], hyps: &[u64; FACTWORDS], out: &mut [u32; FACTS]) -> usize
     requires { length (fact_rows facts.now) ≡ 6 * FACTS }
     ensures { (result ≤ FACTS) × (take result out.new ≡ judgment_cells (fact_rows facts.now) (rising FACTS (holds hyps.now))) }
@@ -61,7 +61,7 @@ fn judgments_of(facts: &[Fact], hyps: &[u64; FACTWORDS], out: &mut [u32; FACTS])
 impl Motive<'_> {
     // Its variables.
     fn vars(&self, terms: &Terms<'_>) -> [u64; VARIABLEWORDS]
-        requires { let t = terms.now in Motived t.index.now t.words.now t.mark self.now.x self.now.judgment self.now.premises.now }
+        requires { MotivedTerms terms.now self.now }
         ensures { holds result ≡ motive_vars (motive_of (terms_made terms.now) self.now) }
     {
         let mut set = [0u64; VARIABLEWORDS];
@@ -200,7 +200,6 @@ pub fn induct_with(
 {
     let reader = &source.reader;
     let x = read_subject(reader, cells)?;
-    let mut hyps = [0; FACTWORDS];
-    reader.plain_hyps(source.records, items::from(cells, 3), &mut hyps)?;
+    let hyps = reader.plain_hyps(source.records, items::from(cells, 3))?;
     induct_on(source, store, items::from(cells, 4), x, hyps, memo, ids)
 }

@@ -1,12 +1,15 @@
-// What a case of `induct` may rest on: plain hypotheses by a set of terms, rule hypotheses by the numbers of the induction hypotheses.
-ghost use Rattle.std.specs.Prelude.{◌≡◌, ◌&&◌, ℕ, not, suc, ◌*◌, ◌<◌, ◌≤◌, eqb, length};
+// What a case of `induct` may rest on: plain hypotheses by a set of terms, rule hypotheses by the numbers of the induction hypotheses. `hyp`, `hyps` and
+// `case_fact` have the shape of `rests_on`, `rests_on_all` (casework) and `verdict` (inversion), where rule hypotheses are in a set of facts and not compared
+// with rows, and what the fact rests on is told beforehand. A trait over both would have two contracts for each of the three, and is no plainer.
+ghost use Rattle.std.specs.Prelude.{◌≡◌, ◌&&◌, ℕ, not, suc, ◌*◌, ◌<◌, ◌≤◌, eqb, length, get_or};
 ghost use Rattle.rules.specs.Limits.{FACTS, VARIABLES};
 ghost use Rattle.rules.specs.Find.{all, entry};
+ghost use Rattle.rules.specs.Tree.{var};
 ghost use Rattle.rules.specs.Induct.{allowed_rule, allowed_hyp};
-ghost use Rattle.terms.specs.Table.{Below, made, tree};
+ghost use Rattle.terms.specs.Table.{Below};
 ghost use Rattle.terms.specs.Sets.{holds};
 ghost use Rattle.referring.specs.Recall.{fact_of};
-ghost use Rattle.induction.specs.Inducing.{hyps_in, row_among, RestingIn, case_fact, asked};
+ghost use Rattle.induction.specs.Inducing.{row_among, RestingIn, made_in, hyps_given, case_fact, asked};
 
 use crate::motive::Rows;
 use questions::Question;
@@ -52,22 +55,18 @@ impl Allowed<'_> {
     fn rule(&self, facts: &Facts<'_>, h: usize) -> bool
         requires { RestingIn facts.now self.now × (h < facts.now.n.facts) }
         ensures { (g : RestingIn facts.now self.now) →
-            result ≡ allowed_rule g.M (hyps_in (made g.I g.W g.m) self.now.rows.width g.many self.now.rows.cells.now) (fact_of g.S h) }
+            result ≡ allowed_rule g.M (hyps_given g) (fact_of g.S h) }
     {
-        if !is_assumed(facts.records, h) {
-            return false;
-        }
-        if !self.generalises(facts.general(h)) {
-            return false;
-        }
-        self.rows.has(facts.premises(h), judgment(facts.records, h))
+        is_assumed(facts.records, h)
+            && self.generalises(facts.general(h))
+            && self.rows.has(facts.premises(h), judgment(facts.records, h))
     }
 
     // Whether it may rest on hypothesis h.
     fn hyp(&self, facts: &Facts<'_>, h: usize) -> bool
         requires { RestingIn facts.now self.now × (h < facts.now.n.facts) }
         ensures { (g : RestingIn facts.now self.now) →
-            result ≡ allowed_hyp g.M g.ps (hyps_in (made g.I g.W g.m) self.now.rows.width g.many self.now.rows.cells.now) (entry g.S.facts h) }
+            result ≡ allowed_hyp g.M g.ps (hyps_given g) (entry g.S.facts h) }
     {
         if is_plain(facts.records, h) {
             let plain = self.plain;
@@ -80,7 +79,7 @@ impl Allowed<'_> {
     fn hyps(&self, facts: &Facts<'_>, i: usize) -> bool
         requires { RestingIn facts.now self.now × (i < facts.now.n.facts) }
         ensures { (g : RestingIn facts.now self.now) →
-            result ≡ all (λ h. allowed_hyp g.M g.ps (hyps_in (made g.I g.W g.m) self.now.rows.width g.many self.now.rows.cells.now) (entry g.S.facts h)) (fact_of g.S i).hyps }
+            result ≡ all (λ h. allowed_hyp g.M g.ps (hyps_given g) (entry g.S.facts h)) (fact_of g.S i).hyps }
     {
         let hyps = facts.hyps(i);
         hyps.iter().all(|h| self.hyp(facts, *h as usize))
@@ -90,7 +89,7 @@ impl Allowed<'_> {
     pub fn case_fact(&self, facts: &Facts<'_>, i: usize, t: usize) -> Result<(), Question>
         requires { RestingIn facts.now self.now }
         ensures { (g : RestingIn facts.now self.now) → t < g.m.terms →
-            case_fact g.S g.M g.ps (hyps_in (made g.I g.W g.m) self.now.rows.width g.many self.now.rows.cells.now) i (tree g.I g.W g.m t) (made g.I g.W g.m) ≡ asked result (made g.I g.W g.m) }
+            case_fact g.S g.M g.ps (hyps_given g) i (get_or (made_in g) t (var 0)) (made_in g) ≡ asked result (made_in g) }
     {
         facts.concludes(i, t)?;
         if !self.hyps(facts, i) {

@@ -139,8 +139,8 @@ module _ {goals text vars rulevars : List ℕ} {count : ℕ} {cells : List ℕ} 
         needed : need ≡ length rs
         needed = g.rule_vars_lem.many ∙ ap (λ (T : Theory). length (rule T r).vars) g.theory
 
-        pub case_short : (list : List ℕ) → length list ≡ RULEVARS → length (take one.variables out) ≤ length list
-        case_short list n = omega (arith, n, g.few, needed, as_many, ap length own_is)
+        pub case_short : length (take one.variables out) ≤ RULEVARS
+        case_short = omega (arith, g.few, needed, as_many, ap length own_is)
 
         module _ (taken : List ℕ) {d : Bool} (n : d ≡ all (λ v. not (holds taken v)) (take one.variables out)) where
           news : d ≡ all (λ v. not (holds taken v)) g.c.vars

@@ -230,6 +230,10 @@ module _ {theory goals text symbols ins vars defs rules rulevars patterns facts 
             pub list_is : take need list ≡ c.vars
             list_is = ap (λ (k : ℕ). take k list) need_is ∙ are.numbers
 
+            -- the list has the rule's variables in front
+            pub list_long : need ≡ length (take need list)
+            list_long = need_is ∙ sym are.many ∙ sym (ap length list_is)
+
             pub list_low : There count (take need list)
             list_low k t =
                 let low = (vars_listed g.S.vars (item here.case.inner 2) c.vars here.case.vars).below in

@@ -10,10 +10,11 @@ use Rattle.std.specs.Bool.{MatchBool}
 use Rattle.std.specs.List.{AllWithin, HoldsAt, enumerate_from}
 use Rattle.std.proofs.lemmas.List.FromFn.{length-enumerate_from, get_or-enumerate_from}
 use Rattle.rules.specs.State.{Var, sort_of_var}
-use Rattle.rules.specs.Theory.{Theory, RuleVar, rule}
+use Rattle.rules.specs.Theory.{RuleVar, rule}
 use Rattle.rules.specs.Declare.{no_rule_var}
 use Rattle.rules.specs.Invert.{suit}
-use Rattle.kernel.specs.HeldRules.{RulesHeld}
+use Rattle.kernel.specs.declared.rule_readers.Rules.{Rules}
+use Rattle.kernel.specs.Lent.{OfRuleVars}
 use Rattle.state.specs.Held.{VarCells}
 use Rattle.state.specs.Rows.{cell}
 use Rattle.state.specs.VarLaws.{var_sort_is}
@@ -63,24 +64,22 @@ module _ (xs : List ℕ) where
 -- What the chain answers ---------------------------------------------------------------------------------------------------------------------
 
 -- what one call says, of the place and the number
-abbrev pub Says : List ℕ → List ℕ → ℕ → Bool → ℕ × ℕ → Type 0
-Says rulevars vars r b p = (a : ℕ) × (s : ℕ) × (a ≡ cell 4 vars p.1 0) × ((T : Theory) (text rules patterns : List ℕ) (count words : ℕ) →
-    RulesHeld text rules rulevars patterns count words T.rules → r < count → p.0 < length (rule T r).vars → s ≡ (get_or (rule T r).vars p.0 no_rule_var).sort)
-    × (eqb a s ≡ b)
+abbrev pub Says : Rules → List ℕ → ℕ → Bool → ℕ × ℕ → Type 0
+Says s vars r b p = (a : ℕ) × (e : ℕ) × (a ≡ cell 4 vars p.1 0) × OfRuleVars s r (λ T. p.0 < length (rule T r).vars → e ≡ (get_or (rule T r).vars p.0 no_rule_var).sort) × (eqb a e ≡ b)
 
-module _ {rulevars vars : List ℕ} {r need : ℕ} (g : RuleVarsGiven rulevars r need) {vs : List Var} {count : ℕ} (h : VarCells vars count vs)
+module _ (own : Rules) {vars : List ℕ} {r need : ℕ} (g : RuleVarsGiven own.vars.now r need) {vs : List Var} {count : ℕ} (h : VarCells vars count vs)
     (xs : List ℕ) (long : length xs ≡ need) where
-  here : (b : Bool) (k : ℕ) → k < length xs → Says rulevars vars r b (k, get_or xs k 0) → eqb (sort_of_var vs (get_or xs k 0)) (get_or (rule g.T r).vars k no_rule_var).sort ≡ b
+  here : (b : Bool) (k : ℕ) → k < length xs → Says own vars r b (k, get_or xs k 0) → eqb (sort_of_var vs (get_or xs k 0)) (get_or (rule g.T r).vars k no_rule_var).sort ≡ b
   here b k l (a, s, e, f, q) =
       let i : a ≡ sort_of_var vs (get_or xs k 0) = e ∙ var_sort_is h (get_or xs k 0) in
       let j = f g.T g.text g.rules g.patterns g.known g.words g.held g.there (omega (arith, long, g.many, l)) in
       (λ z. eqb (sym i z) (sym j z)) ∙ q
 
-  pub suit_is : (b : Bool) → MatchBool b (AllWithin (Says rulevars vars r true) (enumerate_from 0 xs) 0 (length (enumerate_from 0 xs)))
-      ((k : ℕ) × (k < length (enumerate_from 0 xs)) × HoldsAt (Says rulevars vars r false) (enumerate_from 0 xs) k) → b ≡ suit vs xs (rule g.T r).vars
+  pub suit_is : (b : Bool) → MatchBool b (AllWithin (Says own vars r true) (enumerate_from 0 xs) 0 (length (enumerate_from 0 xs)))
+      ((k : ℕ) × (k < length (enumerate_from 0 xs)) × HoldsAt (Says own vars r false) (enumerate_from 0 xs) k) → b ≡ suit vs xs (rule g.T r).vars
   suit_is true f =
       sym (suit_true vs xs (rule g.T r).vars (long ∙ g.many)
-      (λ k l. here true k l (subst (Says rulevars vars r true) (pair_at xs k l) (f k (0, 0) (omega arith) (omega (arith, l, length-enumerate_from 0 xs))))))
+      (λ k l. here true k l (subst (Says own vars r true) (pair_at xs k l) (f k (0, 0) (omega arith) (omega (arith, l, length-enumerate_from 0 xs))))))
   suit_is false (k, l, f) =
       let m : k < length xs = omega (arith, l, length-enumerate_from 0 xs) in
-      sym (suit_false vs xs (rule g.T r).vars k (long ∙ g.many) m (here false k m (subst (Says rulevars vars r false) (pair_at xs k m) (f (0, 0)))))
+      sym (suit_false vs xs (rule g.T r).vars k (long ∙ g.many) m (here false k m (subst (Says own vars r false) (pair_at xs k m) (f (0, 0)))))

@@ -23,6 +23,7 @@ use Rattle.state.specs.Members.{Under}
 use Rattle.questions.specs.declared.Question.{Question}
 use Rattle.questions.specs.Numbers.{number_of, detail_of}
 use Rattle.inversion.specs.declared.inverting.Variables.{Variables}
+use Rattle.inversion.specs.declared.invert.Hypotheses.{Hypotheses}
 use Rattle.referring.specs.Recall.{Refers, fact_of}
 use Rattle.referring.specs.declared.support.Derived.{Derived}
 use Rattle.referring.specs.Derived.{derived_fact}
@@ -66,9 +67,9 @@ pub record HypothesisRead (S : State) (n : Sizes) (hyps : List ℕ) (K : Act Mad
   pub there : i < n.facts
   pub early : Under n.facts (holds hyps)
 
-abbrev pub HypothesisAs : State → Sizes → List ℕ → Act Made (ℕ × (Fact × List ℕ)) → Result ℕ Question → Type 0
-HypothesisAs S n hyps K (Ok i) = HypothesisRead S n hyps K i
-HypothesisAs S n hyps K (Err q) = (M : Made) → K M ≡ refuse (number_of q) (detail_of q) M
+abbrev pub HypothesisAs : State → Sizes → Act Made (ℕ × (Fact × List ℕ)) → Result Hypotheses Question → Type 0
+HypothesisAs S n K (Ok h) = HypothesisRead S n h.hyps K h.fact
+HypothesisAs S n K (Err q) = (M : Made) → K M ≡ refuse (number_of q) (detail_of q) M
 
 -- the rest of the form, behind its judgment j; s: the hypothesis; context: its facts
 pub record InvertingOn (K : Names) (P : RuleLists) (facts lists : List ℕ) (n : Sizes) (I W : List ℕ) (m : Mark) (cells : List ℕ) (s j : ℕ) (context : List ℕ) : Type 0 where

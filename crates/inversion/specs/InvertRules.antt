@@ -35,6 +35,7 @@ use Rattle.state.specs.Entries.{part}
 use Rattle.state.specs.Held.{VarsHeld, Names as Texts, RuleLists, Ruled}
 use Rattle.referring.specs.Recall.{Refers, Recalls, fact_of}
 use Rattle.casework.specs.Cases.{CaseItem, no_case}
+use Rattle.inversion.specs.declared.inverting.CaseVars.{CaseVars}
 -- beside `Below` of trees
 use Rattle.terms.specs.Table.{Below as There}
 use Rattle.referring.specs.Ids.{IDS}
@@ -78,9 +79,9 @@ pub record VarsMade (vs : List Var) (rs : List RuleVar) (sorts sorts' : List ℕ
   pub long : length sorts' ≡ VARIABLES
   pub others : (base : ℕ) → base ≤ old → Unmade base old sorts → Unmade base new sorts'
 
-abbrev pub MadeAs : List Var → List RuleVar → List ℕ → List ℕ → ℕ → ℕ → List ℕ → Result (Unit {0}) Row → Type 0
-MadeAs vs rs sorts sorts' old new list (Ok _) = VarsMade vs rs sorts sorts' old list new
-MadeAs vs rs sorts sorts' old new list (Err row) = (M : Made) → make_vars rs (vars_with vs sorts old) M ≡ refuse 60 (row_number row) M
+abbrev pub MadeBy : List Var → List RuleVar → List ℕ → List ℕ → ℕ → ℕ → Result (List ℕ) Row → Type 0
+MadeBy vs rs sorts sorts' old new (Ok list) = VarsMade vs rs sorts sorts' old list new
+MadeBy vs rs sorts sorts' old new (Err row) = (M : Made) → make_vars rs (vars_with vs sorts old) M ≡ refuse 60 (row_number row) M
 
 -- the case in front of the cells, and the rule that it is of
 pub record CaseVarsGiven (goals text vars rulevars : List ℕ) (count : ℕ) (cells : List ℕ) (r need : ℕ) : Type 0 where
@@ -104,9 +105,9 @@ pub record CaseVarsAre (S : State) (rs : List RuleVar) (c : Case) (taken taken' 
   pub numbers : take (length rs) list ≡ c.vars
   pub takes : holds taken' ≡ union (holds taken) (has c.vars)
 
-abbrev pub CaseVarsAs : State → List RuleVar → Case → List ℕ → List ℕ → List ℕ → Result ℕ Question → Type 0
-CaseVarsAs S rs c taken taken' list (Ok fact) = CaseVarsAre S rs c taken taken' list fact
-CaseVarsAs S rs c taken taken' list (Err q) = (q ≡ CaseVariables) × (suit S.vars c.vars rs && all (λ v. not (holds taken v)) c.vars ≡ false)
+abbrev pub CaseVarsAs : State → List RuleVar → Case → List ℕ → List ℕ → Result CaseVars Question → Type 0
+CaseVarsAs S rs c taken taken' (Ok own) = CaseVarsAre S rs c taken taken' own.list own.fact
+CaseVarsAs S rs c taken taken' (Err q) = (q ≡ CaseVariables) × (suit S.vars c.vars rs && all (λ v. not (holds taken v)) c.vars ≡ false)
 
 -- variables as terms, in cells
 pub record VarsKept (I W J X : List ℕ) (old : Mark) (list bound : List ℕ) (new : Mark) : Type 0 where

@@ -2,7 +2,9 @@
 use Rattle.state.specs.Records.{fact_rows, fact_feet}
 use Rattle.std.specs.Prelude.{List, ℕ, Option, Result}
 use Rattle.rules.specs.Out.{Out}
+use Rattle.rules.specs.Tree.{Tree}
 use Rattle.rules.specs.Store.{Made}
+use Rattle.rules.specs.Theory.{RuleVar}
 use Rattle.rules.specs.Unify.{Binding}
 use Rattle.rules.specs.State.{State, Var, Fact}
 use Rattle.rules.specs.Invert.{Inversion, Names}
@@ -10,6 +12,7 @@ use Rattle.questions.specs.declared.Row.{Row}
 use Rattle.questions.specs.declared.Question.{Question}
 use Rattle.kernel.specs.declared.rule_readers.Rules.{Rules}
 use Rattle.terms.specs.declared.store.Store.{Store}
+use Rattle.terms.specs.Lent.{tree_of}
 use Rattle.terms.specs.Patterns.{cells_of}
 use Rattle.unification.specs.declared.unify.Scratch.{Scratch}
 use Rattle.referring.specs.declared.source.Facts.{Facts}
@@ -21,7 +24,7 @@ use Rattle.inversion.specs.declared.inverting.Inverting.{Inverting}
 use Rattle.inversion.specs.declared.inverting.Variables.{Variables}
 use Rattle.inversion.specs.declared.inverting.Renaming.{Renaming}
 use Rattle.inversion.specs.declared.inverting.RuleVars.{RuleVars}
-use Rattle.inversion.specs.InvertRules.{RuleVarsGiven, CaseVarsGiven, KeptBy, Empty, Meeting, MetBy, Judging, Verdict, Lacking, LackedBy, Having, Turning, TurnedBy}
+use Rattle.inversion.specs.InvertRules.{RuleVarsGiven, MadeBy, CaseVarsGiven, KeptBy, Empty, Meeting, MetBy, Judging, Verdict, Lacking, LackedBy, Having, Turning, TurnedBy}
 use Rattle.inversion.specs.Inversions.{NamingForm, InvertForm, InvertingOn, InvertedOnBy, InvertedBy}
 
 -- Scratch --------------------------------------------------------------------------------------------------------------------------
@@ -29,11 +32,23 @@ use Rattle.inversion.specs.Inversions.{NamingForm, InvertForm, InvertingOn, Inve
 abbrev pub EmptyScratch : Scratch → Type 0
 EmptyScratch x = Empty x.map.now x.memo.now x.pairs.now x.seen.now
 
+-- The terms of what is inverted, in a store ------------------------------------------------------------------------------------------
+
+abbrev pub hypothesis_in : Inverting → Store → Tree
+hypothesis_in v s = tree_of s v.hypothesis
+
+abbrev pub judgment_in : Inverting → Store → Tree
+judgment_in v s = tree_of s v.judgment
+
 -- One rule -------------------------------------------------------------------------------------------------------------------------
 
 -- the variables of a rule
 abbrev pub RuleVarsIn : RuleVars → Type 0
 RuleVarsIn u = RuleVarsGiven u.rules.vars.now u.rule u.count
+
+-- x, y: the variables before, and with those that were made
+abbrev pub MadeAs : List Var → List RuleVar → Variables → Variables → Result (List ℕ) Row → Type 0
+MadeAs vs rs x y r = MadeBy vs rs x.sorts y.sorts x.count y.count r
 
 -- the case in front of the cells, of that rule
 abbrev pub CaseVarsIn : Inverting → List ℕ → RuleVars → Type 0

@@ -1,11 +1,10 @@
 // `(invert N K (HYP...) JUDGMENT (CASE...))`: the plain hypothesis K was derived by some rule of its predicate. Each rule whose conclusion unifies with it
 // has a case, a fact that concludes the judgment under the unifier.
 ghost use Rattle.std.specs.Prelude.{◌≡◌, List, ℕ, ◌<◌, ◌≤◌, length, replicate};
-ghost use Rattle.rules.specs.Limits.{VARIABLES, TERMS, FACTWORDS};
+ghost use Rattle.rules.specs.Limits.{VARIABLES, TERMS};
 ghost use Rattle.rules.specs.State.{Var};
 ghost use Rattle.rules.specs.Invert.{Inversion, invert, taken_vars};
-ghost use Rattle.terms.specs.Table.{tree};
-ghost use Rattle.terms.specs.Lent.{SameTables, made_of};
+ghost use Rattle.terms.specs.Lent.{SameTables, made_of, tree_made};
 ghost use Rattle.terms.specs.Sets.{holds};
 ghost use Rattle.state.specs.Held.{VarsHeld};
 ghost use Rattle.referring.specs.Sources.{RecallsIn, facts_of};
@@ -13,7 +12,7 @@ ghost use Rattle.terms.specs.Table.{Below};
 ghost use Rattle.referring.specs.Ids.{IDS};
 ghost use Rattle.inversion.specs.InvertRules.{vars_with};
 ghost use Rattle.inversion.specs.Inversions.{hypothesis_of, HypothesisAs, invert_on};
-ghost use Rattle.inversion.specs.Inverting.{NamesHypothesis, InvertsForm, InvertsOn, InvertedOnAs, InvertedAs};
+ghost use Rattle.inversion.specs.Inverting.{hypothesis_in, judgment_in, NamesHypothesis, InvertsForm, InvertsOn, InvertedOnAs, InvertedAs};
 
 use crate::inverting::{Inverting, Variables};
 use casework::cases::read_cases;
@@ -45,8 +44,8 @@ impl Inverting<'_> {
     fn taken_vars(&self, terms: &Terms<'_>) -> [u64; VARIABLEWORDS]
         requires { RecallsIn (facts_of self.now.source) terms.now × (self.now.hypothesis < terms.now.mark.terms) × (self.now.judgment < terms.now.mark.terms)
             × Below self.now.source.reader.n.facts self.now.context.now }
-        ensures { (g : RecallsIn (facts_of self.now.source) terms.now) (Y : Inversion) → let t = terms.now in
-            Y.hypothesis ≡ tree t.index.now t.words.now t.mark self.now.hypothesis → Y.judgment ≡ tree t.index.now t.words.now t.mark self.now.judgment →
+        ensures { (g : RecallsIn (facts_of self.now.source) terms.now) (Y : Inversion) →
+            Y.hypothesis ≡ tree_made terms.now self.now.hypothesis → Y.judgment ≡ tree_made terms.now self.now.judgment →
             Y.context ≡ self.now.context.now → holds result ≡ taken_vars g.S Y }
     {
         let facts = self.source.facts();
@@ -75,7 +74,7 @@ impl Inverting<'_> {
         ensures same_tables { SameTables store.old store.new }
         ensures inverted_on_as { (g : InvertsOn self.now store.old cells.now) → let s = store.old in let v = self.now in
             InvertedOnAs s store.new g.form.S
-            (invert_on g.form.S g.form.xs (tree s.index.now s.words.now s.mark v.hypothesis) (tree s.index.now s.words.now s.mark v.judgment) v.context.now (made_of s))
+            (invert_on g.form.S g.form.xs (hypothesis_in v s) (judgment_in v s) v.context.now (made_of s))
             names.new result }
         ensures memo_unchanged { (memo.new ≡ memo.old) × (ids.new ≡ ids.old) }
     {
@@ -89,23 +88,25 @@ impl Inverting<'_> {
     }
 }
 
-// The hypothesis that the form inverts, by the number of its fact, and those that the result rests on, as a set that is empty before. The set is lent,
-// since it is filled where it stays, in the fact's `Support`.
-fn hypothesis(
-    source: &Source<'_>,
-    cells: &[u32],
-    hyps: &mut [u64; FACTWORDS],
-) -> Result<usize, Question>
-    requires { NamesHypothesis source.now cells.now × (hyps.old ≡ replicate FACTWORDS 0) }
-    ensures { (g : NamesHypothesis source.now cells.now) → HypothesisAs g.S source.now.reader.n hyps.new (hypothesis_of g.S g.xs) result }
+// The hypothesis that a form inverts, by the number of its fact, and those that the result rests on.
+#[derive(Clone, Copy)]
+pub struct Hypotheses {
+    pub fact: usize,
+    pub hyps: [u64; FACTWORDS],
+}
+
+// That of the form.
+fn hypothesis(source: &Source<'_>, cells: &[u32]) -> Result<Hypotheses, Question>
+    requires { NamesHypothesis source.now cells.now }
+    ensures { (g : NamesHypothesis source.now cells.now) → HypothesisAs g.S source.now.reader.n (hypothesis_of g.S g.xs) result }
 {
-    let i = source.earlier(items::from(cells, 2))?;
-    if !is_plain(source.records, i) {
+    let fact = source.earlier(items::from(cells, 2))?;
+    if !is_plain(source.records, fact) {
         return Err(Question::Hypothesis);
     }
     let listed = items::from(cells, 3);
-    source.reader.any_hyps(source.records, listed, hyps)?;
-    Ok(i)
+    let hyps = source.reader.any_hyps(source.records, listed)?;
+    Ok(Hypotheses { fact, hyps })
 }
 
 // The form, whose items the cells hold. `vars`, whatever it held, gets the variables with those made, whose rows are for the caller to write (`put_made`).
@@ -128,12 +129,11 @@ pub fn invert(
         InvertedAs store.old store.new g.S (invert g.S g.xs (made_of store.old)) vars.new result }
     ensures memo_unchanged { (memo.new ≡ memo.old) × (ids.new ≡ ids.old) }
 {
-    let mut support = Support::NONE;
-    let fact = hypothesis(source, cells, &mut support.hyps)?;
+    let Hypotheses { fact, hyps } = hypothesis(source, cells)?;
     let judgment = source.reader.judgment(store, items::from(cells, 4))?;
     // cells for as many as there can be, since there is no heap, and the core stands on `std` alone
     let mut list = [0u32; FACTS];
-    let many = write_out(&support.hyps, &mut list);
+    let many = write_out(&hyps, &mut list);
     let inverting = Inverting {
         source: *source,
         rules: *rules,
@@ -142,6 +142,10 @@ pub fn invert(
         context: &list[..many],
     };
     inverting.invert_on(store, cells, memo, ids, vars)?;
+    let mut support = Support {
+        hyps,
+        ..Support::NONE
+    };
     insert(&mut support.hyps, fact);
     Ok(Derived {
         judgment,

@@ -1,7 +1,7 @@
 // What is inverted, and what is carried from rule to rule.
 use kernel::rule_readers::Rules;
 use referring::source::Source;
-use rules::{VARIABLES, VARIABLEWORDS};
+use rules::{RULEVARS, VARIABLES, VARIABLEWORDS};
 
 // The hypothesis and the judgment by their numbers, and the facts of the context; beside what all is read from.
 #[derive(Clone, Copy)]
@@ -38,6 +38,17 @@ impl Variables {
         sorts: [0; VARIABLES],
         count: 0,
     };
+}
+
+// Variables that stand for those of a rule, in cells for as many as a rule can have: no heap, and the core stands on `std` alone, which has no vector
+// without one. How many they are is the rule's count.
+pub type RuleList = [u32; RULEVARS];
+
+// The fact of a case, and the variables that it has for its rule's.
+#[derive(Drop)]
+pub struct CaseVars {
+    pub fact: usize,
+    pub list: RuleList,
 }
 
 // A rule by its number, the variables that stand for its own, and how many variables there are in all.

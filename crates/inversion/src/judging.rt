@@ -5,19 +5,18 @@ ghost use Rattle.std.specs.Prelude.{◌≡◌, get_or};
 ghost use Rattle.rules.specs.Tree.{var};
 ghost use Rattle.rules.specs.Theory.{rule};
 ghost use Rattle.rules.specs.Invert.{renaming};
-ghost use Rattle.terms.specs.Table.{tree};
 ghost use Rattle.terms.specs.declared.store.Terms.{Terms};
-ghost use Rattle.terms.specs.Lent.{SameTables, made_of};
+ghost use Rattle.terms.specs.Lent.{SameTables, made_of, tree_of};
 ghost use Rattle.terms.specs.Sets.{holds};
 ghost use Rattle.terms.specs.Theta.{bindings};
 ghost use Rattle.state.specs.Entries.{part};
 ghost use Rattle.referring.specs.Sources.{RecallsIn};
 ghost use Rattle.inversion.specs.InvertRules.{judged, judges, own_span, verdict_of};
-ghost use Rattle.inversion.specs.Inverting.{JudgingIn, VerdictIn};
+ghost use Rattle.inversion.specs.Inverting.{judgment_in, JudgingIn, VerdictIn};
 ghost use Rattle.reading.specs.Answers.{PassedAs};
 
 use crate::inverting::Inverting;
-use casework::context::{Grounds, Renamed, context_facts, rule_premises};
+use casework::context::{Grounds, Renamed};
 use questions::Question;
 use referring::source::Facts;
 use state::recorded::is_fact;
@@ -63,14 +62,14 @@ impl Inverting<'_> {
         ensures same_tables { SameTables store.old store.new }
         ensures judged_as { (g : JudgingIn self.now store.old renamed.now t memo.old ids.old) → let s = store.old in
             PassedAs s store.new (judged g.recalls.S (rule g.renamed.T renamed.now.rule) (renaming g.renamed.xs) (bindings (made_of s) renamed.now.theta.now 0)
-            self.now.context.now i (tree s.index.now s.words.now s.mark t) (made_of s)) result }
+            self.now.context.now i (tree_of s t) (made_of s)) result }
         ensures memo_unchanged { (memo.new ≡ memo.old) × (ids.new ≡ ids.old) }
     {
         let facts = self.source.facts();
-        let none = Grounds::none(own_hyps(&facts, i));
+        let mut grounds = Grounds::none(own_hyps(&facts, i));
         let symbols = self.source.reader.symbols;
-        let first = rule_premises(&self.rules, symbols, store, renamed, memo, none)?;
-        let grounds = context_facts(&facts, store, renamed.theta, memo, self.context, ids, first)?;
+        grounds.rule_premises(&self.rules, symbols, store, renamed, memo)?;
+        grounds.context_facts(&facts, store, renamed.theta, memo, self.context, ids)?;
         verdict(&facts, i, t, &grounds)
     }
 
@@ -87,10 +86,11 @@ impl Inverting<'_> {
         ensures same_tables { SameTables store.old store.new }
         ensures judged_as { (g : JudgingIn self.now store.old renamed.now self.now.judgment memo.old ids.old) → let s = store.old in
             PassedAs s store.new (judges g.recalls.S (rule g.renamed.T renamed.now.rule) (renaming g.renamed.xs) (bindings (made_of s) renamed.now.theta.now 0)
-            self.now.context.now i (tree s.index.now s.words.now s.mark self.now.judgment) (made_of s)) result }
+            self.now.context.now i (judgment_in self.now s) (made_of s)) result }
         ensures memo_unchanged { (memo.new ≡ memo.old) × (ids.new ≡ ids.old) }
     {
-        let t = substitute(store, renamed.theta, memo, self.judgment)?;
+        let theta = renamed.theta;
+        let t = substitute(store, theta, memo, self.judgment)?;
         self.judge_on(store, renamed, t, i, memo, ids)
     }
 }

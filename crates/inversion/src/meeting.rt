@@ -2,16 +2,15 @@
 ghost use Rattle.std.specs.Prelude.{◌≡◌, ◌≤◌, length, replicate};
 ghost use Rattle.rules.specs.Limits.{VARIABLES, RULEVARS};
 ghost use Rattle.rules.specs.Theory.{rule};
-ghost use Rattle.terms.specs.Table.{tree};
 ghost use Rattle.terms.specs.Lent.{GoodStore, SameTables, made_of};
 ghost use Rattle.unification.specs.Unify.{SameScratch, ScratchKept};
 ghost use Rattle.terms.specs.Table.{Below};
 ghost use Rattle.inversion.specs.InvertRules.{meets};
-ghost use Rattle.inversion.specs.Inverting.{EmptyScratch, KeptAs, MeetingIn, MetAs};
+ghost use Rattle.inversion.specs.Inverting.{EmptyScratch, hypothesis_in, KeptAs, MeetingIn, MetAs};
 
 use crate::inverting::{Inverting, Renaming};
 use questions::{Question, Row};
-use rules::RULEVARS;
+use rules::{RULEVARS, VARIABLES};
 use terms::patterns::Bound;
 use terms::store::Store;
 use unification::unify::{Scratch, unify};
@@ -26,28 +25,28 @@ fn keep_vars(store: &mut Store<'_>, list: &[u32]) -> Result<Bound, Row>
     for (k, v) in list.iter().enumerate() {
         let term = store.keep_var(*v as usize)?;
         // by its place: behind a zip with `iter_mut` nothing is known of what was written
-        bound[k] = Some(term);
+        bound[k] = Some(term as u32);
     }
     Ok(bound)
 }
 
 impl Inverting<'_> {
     // What the rule's variables are bound to, where the rule meets the hypothesis; none where they have no unifier. The unifier comes into `theta`,
-    // which is zero before, and stays so where there is none. It is lent: answered by value was tried, and an inversion took longer. Whoever calls makes
-    // its cells for one rule: made once for all, they would be an eighth parameter of `invert_rule`, and cleared behind each. `scratch` is zero before
-    // and after.
+    // which is zero before, and stays so where there is none. It is lent: answered beside what is bound, 2 KB, the checks of `mid` and `invert` take 6.5 and
+    // 26 % more instructions. Whoever calls makes its cells for one rule: made once for all, they would have to be zero again behind each rule that meets the
+    // hypothesis. `scratch` is zero before and after.
     pub fn meet(
         &self,
         store: &mut Store<'_>,
         own: &Renaming<'_>,
-        theta: &mut [u32],
+        theta: &mut [u32; VARIABLES],
         scratch: &mut Scratch<'_>,
     ) -> Result<Option<Bound>, Question>
         requires meeting { MeetingIn self.now store.old own.now }
         requires empty { (theta.old ≡ replicate VARIABLES 0) × EmptyScratch scratch.old }
         ensures same_tables { SameTables store.old store.new }
-        ensures met_as { (g : MeetingIn self.now store.old own.now) → let s = store.old in
-            MetAs s store.new (meets own.now.vars.now own.now.count (tree s.index.now s.words.now s.mark self.now.hypothesis) (rule g.T own.now.rule) (made_of s))
+        ensures met_as { (g : MeetingIn self.now store.old own.now) →
+            MetAs store.old store.new (meets own.now.vars.now own.now.count (hypothesis_in self.now store.old) (rule g.T own.now.rule) (made_of store.old))
             own.now.vars.now theta.new result }
         ensures same_scratch { SameScratch scratch.old scratch.new }
         ensures scratch_kept { ScratchKept scratch.old scratch.new }

@@ -1,15 +1,15 @@
 // The variables of a rule, renamed: those of its case, which suit it and are new (question 42), or made ones, where there is no case.
 ghost use Rattle.std.specs.Prelude.{◌≡◌, List, ℕ, ◌≤◌, length};
-ghost use Rattle.rules.specs.Limits.{VARIABLES};
+ghost use Rattle.rules.specs.Limits.{VARIABLES, RULEVARS};
 ghost use Rattle.rules.specs.Theory.{rule};
 ghost use Rattle.rules.specs.State.{Var};
 ghost use Rattle.rules.specs.Invert.{suit};
 ghost use Rattle.state.specs.Held.{VarCells};
 ghost use Rattle.terms.specs.Table.{Below};
-ghost use Rattle.inversion.specs.InvertRules.{MadeAs, CaseVarsAs};
-ghost use Rattle.inversion.specs.Inverting.{RuleVarsIn, CaseVarsIn};
+ghost use Rattle.inversion.specs.InvertRules.{CaseVarsAs};
+ghost use Rattle.inversion.specs.Inverting.{RuleVarsIn, MadeAs, CaseVarsIn};
 
-use crate::inverting::{Inverting, RuleVars, Variables};
+use crate::inverting::{CaseVars, Inverting, RuleList, RuleVars, Variables};
 use casework::cases::read_case;
 use casework::context::none_in;
 use cells::write;
@@ -31,15 +31,16 @@ impl RuleVars<'_> {
             })
     }
 
-    // A variable without a name for each of the rule's: its sort comes into the table, its number into the list. The list is lent, in cells
-    // for as many as there can be: no heap, and the core stands on `std` alone, which has no vector without one.
-    pub fn make(&self, names: &mut Variables, list: &mut [u32]) -> Result<(), Row>
-        requires { RuleVarsIn self.now × (self.now.count ≤ length list.old) × (length names.old.sorts ≡ VARIABLES) × (names.old.count ≤ VARIABLES) }
+    // A variable without a name for each of the rule's: its sort comes into the table, its number into the list that is answered.
+    pub fn make(&self, names: &mut Variables) -> Result<RuleList, Row>
+        requires { RuleVarsIn self.now × (self.now.count ≤ RULEVARS) × (length names.old.sorts ≡ VARIABLES) × (names.old.count ≤ VARIABLES) }
         ensures made_as { (g : RuleVarsIn self.now) (vs : List Var) → length vs ≤ names.old.count →
-            MadeAs vs (rule g.T self.now.rule).vars names.old.sorts names.new.sorts names.old.count names.new.count list.new result }
+            MadeAs vs (rule g.T self.now.rule).vars names.old names.new result }
         ensures taken_unchanged { names.new.taken ≡ names.old.taken }
     {
         let count = names.count;
+        let mut list = [0u32; RULEVARS];
+        // by number: behind a zip with `iter_mut` over the sorts and the list nothing is known of what was written
         for k in 0..self.count {
             let v = count + k;
             if v >= VARIABLES {
@@ -49,23 +50,21 @@ impl RuleVars<'_> {
             list[k] = v as u32;
         }
         names.count = count + self.count;
-        Ok(())
+        Ok(list)
     }
 }
 
 impl Inverting<'_> {
-    // The variables of the case in front, which must suit the rule and be new (question 42), come into the list, which is lent as for `make`, and join
-    // the set. What is answered is the number of the case's fact.
+    // The fact and the variables of the case in front, which must suit the rule and be new (question 42), and join the set.
     pub fn case_vars(
         &self,
         cells: &[u32],
         need: &RuleVars<'_>,
         taken: &mut [u64; VARIABLEWORDS],
-        list: &mut [u32; RULEVARS],
-    ) -> Result<usize, Question>
+    ) -> Result<CaseVars, Question>
         requires { CaseVarsIn self.now cells.now need.now }
         ensures { (g : CaseVarsIn self.now cells.now need.now) →
-            CaseVarsAs g.S (rule g.S.theory need.now.rule).vars g.c taken.old taken.new list.new result }
+            CaseVarsAs g.S (rule g.S.theory need.now.rule).vars g.c taken.old taken.new result }
     {
         let case = read_case(&self.source.reader, cells)?;
         let own = &case.own[..case.variables];
@@ -73,7 +72,11 @@ impl Inverting<'_> {
             return Err(Question::CaseVariables);
         }
         insert_all(own, taken);
-        write(list, own);
-        Ok(case.fact)
+        let mut list = [0u32; RULEVARS];
+        write(&mut list, own);
+        Ok(CaseVars {
+            fact: case.fact,
+            list,
+        })
     }
 }

@@ -3,30 +3,28 @@ ghost use Rattle.std.specs.Prelude.{◌≡◌, ◌<◌, replicate};
 ghost use Rattle.rules.specs.Limits.{TERMS};
 ghost use Rattle.rules.specs.Theory.{rule, rules_of};
 ghost use Rattle.rules.specs.Invert.{invert_rule, invert_rules, predicate_of};
-ghost use Rattle.terms.specs.Table.{tree};
-ghost use Rattle.terms.specs.Lent.{GoodTerms, SameTables, made_of};
+ghost use Rattle.terms.specs.Lent.{GoodTerms, SameTables, made_of, tree_made};
 ghost use Rattle.unification.specs.Unify.{SameScratch, ScratchKept};
 ghost use Rattle.referring.specs.Ids.{IDS};
 ghost use Rattle.inversion.specs.InvertRules.{vars_with, lacks, has_case};
-ghost use Rattle.inversion.specs.Inverting.{EmptyScratch, LackingIn, LackedAs, HavingIn, TurningIn, TurnedAs};
+ghost use Rattle.inversion.specs.Inverting.{EmptyScratch, hypothesis_in, judgment_in, LackingIn, LackedAs, HavingIn, TurningIn, TurnedAs};
 ghost use Rattle.reading.specs.Answers.{PassedAs};
 
 use crate::inverting::{Inverting, Renaming, RuleVars, Variables};
 use casework::cases::find_case;
 use casework::context::Renamed;
-use cells::Span;
 use questions::Question;
-use rules::{PAIRS, RULEVARS, TERMWORDS, VARIABLES};
-use terms::heads::{Head, head_of};
+use rules::{PAIRS, TERMWORDS, VARIABLES};
+use terms::heads::Head;
 use terms::store::{Store, Terms};
 use unification::unify::Scratch;
 
 // The predicate of the term s; where it is a variable, number 0, as the definition has it.
 fn predicate_of(terms: &Terms<'_>, s: usize) -> usize
     requires { GoodTerms terms.now × (s < terms.now.mark.terms) }
-    ensures { let t = terms.now in result ≡ predicate_of (tree t.index.now t.words.now t.mark s) }
+    ensures { result ≡ predicate_of (tree_made terms.now s) }
 {
-    match head_of(terms.node(s)[0]) {
+    match Head::from(terms.node(s)[0]) {
         Head::Symbol(p) => p,
         Head::Variable(_) => 0,
     }
@@ -44,16 +42,15 @@ impl Inverting<'_> {
         requires lacking { LackingIn self.now store.old need.now names.old }
         requires empty { EmptyScratch scratch.old }
         ensures same_tables { SameTables store.old store.new }
-        ensures lacked_as { (g : LackingIn self.now store.old need.now names.old) → let s = store.old in
-            LackedAs s store.new g.vs
-            (lacks (vars_with g.vs names.old.sorts names.old.count) (tree s.index.now s.words.now s.mark self.now.hypothesis) (rule g.T need.now.rule) (made_of s))
+        ensures lacked_as { (g : LackingIn self.now store.old need.now names.old) →
+            LackedAs store.old store.new g.vs
+            (lacks (vars_with g.vs names.old.sorts names.old.count) (hypothesis_in self.now store.old) (rule g.T need.now.rule) (made_of store.old))
             names.old names.new result }
         ensures taken_unchanged { names.new.taken ≡ names.old.taken }
         ensures same_scratch { SameScratch scratch.old scratch.new }
         ensures scratch_kept { ScratchKept scratch.old scratch.new }
     {
-        let mut list = [0u32; RULEVARS];
-        need.make(names, &mut list)?;
+        let list = need.make(names)?;
         let own = Renaming {
             rule: need.rule,
             vars: &list[..need.count],
@@ -78,9 +75,9 @@ impl Inverting<'_> {
         requires having { HavingIn self.now store.old own.now ids.old }
         requires empty { EmptyScratch scratch.old }
         ensures same_tables { SameTables store.old store.new }
-        ensures judged_as { (g : HavingIn self.now store.old own.now ids.old) → let s = store.old in
-            PassedAs s store.new (has_case g.recalls.S own.now.vars.now own.now.count (tree s.index.now s.words.now s.mark self.now.hypothesis)
-            (rule g.recalls.S.theory own.now.rule) self.now.context.now i (tree s.index.now s.words.now s.mark self.now.judgment) (made_of s)) result }
+        ensures judged_as { (g : HavingIn self.now store.old own.now ids.old) →
+            PassedAs store.old store.new (has_case g.recalls.S own.now.vars.now own.now.count (hypothesis_in self.now store.old)
+            (rule g.recalls.S.theory own.now.rule) self.now.context.now i (judgment_in self.now store.old) (made_of store.old)) result }
         ensures same_scratch { SameScratch scratch.old scratch.new }
         ensures scratch_kept { ScratchKept scratch.old scratch.new }
         ensures ids_unchanged { ids.new ≡ ids.old }
@@ -122,20 +119,18 @@ impl Inverting<'_> {
             rule: r,
             count: self.rules.variables(r),
         };
-        let Span { from, end } = self.rules.rule_name(r);
         let reader = &self.source.reader;
-        let name = &reader.theory[from..end];
+        let name = self.rules.rule_name(r).of(reader.theory);
         let Some(case) = find_case(reader.text, cases, name) else {
             return self.without_case(store, &need, names, scratch);
         };
-        let mut list = [0u32; RULEVARS];
-        let i = self.case_vars(case, &need, &mut names.taken, &mut list)?;
+        let renamed = self.case_vars(case, &need, &mut names.taken)?;
         let own = Renaming {
             rule: r,
-            vars: &list[..need.count],
+            vars: &renamed.list[..need.count],
             count: names.count,
         };
-        self.with_case(store, &own, i, scratch, ids)
+        self.with_case(store, &own, renamed.fact, scratch, ids)
     }
 
     // All rules of the predicate in turn. `scratch` and `ids` are zero before and after.
@@ -159,7 +154,8 @@ impl Inverting<'_> {
     {
         let reader = &self.source.reader;
         let predicate = predicate_of(&store.terms(), self.hypothesis);
-        // no filter over the range: its closure would have to be told of each number what `concludes` asks
+        // no filter over the range: the lemma of what a loop over a filter yields (`YieldsList-from_filter`) wants the closure's answer as a function of every
+        // number, and `concludes` says its answer of the rules of the theory alone, below their count; `find` in `Rules::next_rule` can do with that
         for r in 0..reader.n.rules {
             if !self.rules.concludes(reader.symbols, r, predicate) {
                 continue;

@@ -2,7 +2,7 @@
 use mathlib.Core.Path.{◌≡◌, refl, sym, ap, ◌∙◌}
 use Prim.Native.Nat.{ℕ, suc, ◌+◌, ◌-◌, ◌*◌, ◌/◌, ◌^◌, ◌<◌, ◌≤◌}
 use mathlib.Core.Bool.{Bool, true, false}
-use Rattle.std.specs.Prelude.{Some as some, None as nothing, Option, count_by, cond}
+use Rattle.std.specs.Prelude.{Some as some, None as nothing, Option, MatchOption, IsSomeAnd, count_by, cond}
 use Rattle.std.specs.Simd.{first_chunks}
 use Rattle.std.proofs.lemmas.List.Sums.{sum_by-cons}
 use mathlib.Core.List.{List, [], ◌∷◌}
@@ -81,6 +81,16 @@ module _ (T : Theory) {text sorts : List ℕ} {count : ℕ} (h : SortsHeld text 
   sort_found i e =
       ap some (add-one i)
       ∙ (sym (sort_after ∙ ap next (found_at (first (λ (n : Name). same n.bytes name) T.sorts 0) r i (a T.sorts (sorts_rows h)) e)))
+
+  -- one more than what is found, as a closure gives it
+  pub sort_mapped : {P : ℕ → ℕ → Type 0} (q : Option ℕ) → MatchOption r (q ≡ nothing) (λ i. IsSomeAnd q (P i)) →
+      ((i j : ℕ) → r ≡ some i → P i j → j ≡ i + 1) → q ≡ sort_named T name
+  sort_mapped {P} q m p = go r refl q m
+    where
+      go : (o : Option ℕ) → r ≡ o → (q : Option ℕ) → MatchOption o (q ≡ nothing) (λ i. IsSomeAnd q (P i)) → q ≡ sort_named T name
+      go nothing e q m = m ∙ sort_missing e
+      go (some i) e nothing m = absurd m
+      go (some i) e (some j) m = ap some (p i j e m) ∙ sort_found i e
 
 pub some_rows : {text symbols : List ℕ} {count : ℕ} → NamedSymbols text symbols count → SomeSymbols text symbols count
 some_rows s = (s.1.0, symbols_rows s.1.1)

@@ -20,7 +20,8 @@ use Rattle.rules.specs.Theory.{Theory, Symbol, no_symbol, inputs, output, constr
 use Rattle.rules.specs.TheoryTables.{prefix}
 use Rattle.rules.specs.Declare.{Reading, word, met_or_new, variable, head, pattern}
 use Rattle.rules.specs.Laws.PatternSteps.{var_named, worded, word_full, word_more, variable_short, variable_asks, head_unknown, head_sort, head_count, head_asks, pattern_marked, pattern_atom}
-use Rattle.sexp.specs.AtomText.{name_from, atom_span}
+use Rattle.sexp.specs.AtomText.{Spans, name_from, atom_span, atom_spans}
+use Rattle.cells.specs.declared.Span.{Span}
 use Rattle.kernel.specs.Held.{SymbolsHeld}
 use Rattle.kernel.specs.Reading.{Meeting, Met, ReadSoFar, AtomReading, Written, Stopped, PatternRead, Head}
 use Rattle.questions.specs.declared.Question.{Question}
@@ -40,21 +41,31 @@ words_more P Q used cell l e n = ap (λ (k : ℕ). take k Q) (n ∙ add-one used
 
 -- An atom ------------------------------------------------------------------------------------------------------------------------
 
-pub meeting : {text table : List ℕ} {start sort count room : ℕ} (end : ℕ) → AtomReading text start sort table count room → end ≡ start + length (letters (drop start text)) →
-    Meeting text start end sort table count
-meeting {text} {start = start} end k e =
-    record { vs = k.vs; held = k.held; low = omega (arith, e); high = (atom_span text start end k.inside e).high; short = k.short; small = k.small }
+-- where it stands
+abbrev span_from : List ℕ → ℕ → Span
+span_from text start = record { from = start; end = start + length (letters (drop start text)) }
+
+pub meeting : {text table : List ℕ} {start sort count room : ℕ} {s : Span} → AtomReading text start sort table count room → s ≡ span_from text start →
+    Meeting text s.from s.end sort table count
+meeting {text} {start = start} k e =
+    rw e record { vs = k.vs; held = k.held; low = omega arith; high = (atom_span text start (span_from text start).end k.inside refl).high; short = k.short; small = k.small }
+
+pub named_from : {text : List ℕ} {start : ℕ} {s : Span} → start < length text → s ≡ span_from text start → Spans text (name_from text start) s.from s.end
+named_from {text} {start} l e = rw e (atom_spans text start (span_from text start).end l refl)
 
 -- The answers of `variable` ------------------------------------------------------------------------------------------------------
 
-module _ (text : List ℕ) (start end sort : ℕ) (e : end ≡ start + length (letters (drop start text))) (R : Reading) where
-  pub variable_too_short : {P : List ℕ} (used : ℕ) → end - start < 2 → Stopped P P used (variable (name_from text start) sort R) 11 0
-  variable_too_short used l =
-      record { now = R; is = variable_short R (name_from text start) sort (omega (arith, e, l)); words = refl; long = refl }
+module _ (text : List ℕ) (start sort : ℕ) {s : Span} (e : s ≡ span_from text start) (R : Reading) where
+  ends : s.end ≡ start + length (letters (drop start text))
+  ends = ap (λ (z : Span). z.end) e
 
-  module _ (l : 2 ≤ end - start) where
+  pub variable_too_short : {P : List ℕ} (used : ℕ) → s.end - start < 2 → Stopped P P used (variable (name_from text start) sort R) 11 0
+  variable_too_short used l =
+      record { now = R; is = variable_short R (name_from text start) sort (omega (arith, ends, l)); words = refl; long = refl }
+
+  module _ (l : 2 ≤ s.end - start) where
     asks : variable (name_from text start) sort R ≡ then (met_or_new (name_from text start) sort (var_named R.vars (letters (drop start text))) R) (λ i U. then (word U) (λ u W. ok (var i) W))
-    asks = variable_asks R (name_from text start) sort (omega (arith, e, l))
+    asks = variable_asks R (name_from text start) sort (omega (arith, ends, l))
 
     pub variable_unmet : {P Q : List ℕ} (used a d : ℕ) → met_or_new (name_from text start) sort (var_named R.vars (letters (drop start text))) R ≡ refuse a d R → Q ≡ P →
         Stopped P Q used (variable (name_from text start) sort R) a d

@@ -14,6 +14,7 @@ use Rattle.rules.specs.Declare.{Reading}
 use Rattle.sexp.specs.NameRows.{NameIn}
 use Rattle.kernel.specs.Held.{Front, Form, SomeSymbolsHeld}
 use Rattle.kernel.specs.Reading.{ReadSoFar, Written, Stopped}
+use Rattle.kernel.specs.declared.rule.RuleRow.{RuleRow}
 use Rattle.kernel.specs.declared.rule.RuleSize.{RuleSize}
 use Rattle.kernel.specs.declared.patterns.RuleReader.{RuleReader}
 
@@ -82,6 +83,10 @@ pub record RuleFits (room rooms start end variables premises first last row : �
   pub high : last < 2 ^ 32
   pub rows : row ≡ 3 * RULEVARS
 
+-- those of a row
+abbrev pub RowFits : ℕ → ℕ → RuleRow → ℕ → Type 0
+RowFits room rooms r n = RuleFits room rooms r.name.from r.name.end r.variables r.premises r.words.from r.words.end n
+
 -- these are the cells of a rule, and its words are the last
 pub record RuleIs (text patterns : List ℕ) (r : Rule) (start end variables premises first last : ℕ) (row : List ℕ) : Type 0 where
   pub named : NameIn text r.name
@@ -94,6 +99,10 @@ pub record RuleIs (text patterns : List ℕ) (r : Rule) (start end variables pre
   pub cells : rule_var_row r ≡ row
   pub words : take last patterns ≡ take first patterns ++ pattern_row r
   pub room : last ≤ PATTERNS
+
+-- those of a row
+abbrev pub RowIs : List ℕ → List ℕ → Rule → RuleRow → List ℕ → Type 0
+RowIs text patterns u r names = RuleIs text patterns u r.name.from r.name.end r.variables r.premises r.words.from r.words.end names
 
 -- what is stored, with so many words then, and what the lack of room leaves
 abbrev pub RulePut : List ℕ → List ℕ → List ℕ → List ℕ → List ℕ → List ℕ → ℕ → ℕ → List Rule → Rule → Result (Unit {0}) Row → Type 0

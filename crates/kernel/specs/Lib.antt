@@ -8,6 +8,7 @@ pub mod Tables
 pub mod Layout
 pub mod SignatureRows
 pub mod Readers
+pub mod Lent
 pub mod RuleRows
 pub mod Listing
 pub mod Entries

@@ -7,7 +7,7 @@ use Rattle.questions.specs.declared.Question.{Question}
 use Rattle.questions.specs.Numbers.{number_of, detail_of}
 use Rattle.rules.specs.Limits.{LENGTH, RULEVARS, PATTERNS}
 use Rattle.rules.specs.Out.{Out, ok, refuse, then}
-use Rattle.rules.specs.Sexp.{Sexp, Sexps, cons, count}
+use Rattle.rules.specs.Sexp.{Sexp, Sexps, cons, count, Name}
 use Rattle.rules.specs.Tree.{Tree, app}
 use Rattle.rules.specs.Theory.{RuleVar, Theory, Symbol, no_symbol, inputs}
 use Rattle.rules.specs.Laws.Theory.{All}
@@ -15,8 +15,9 @@ use Rattle.rules.specs.TheoryTables.{var_rows}
 use Rattle.rules.specs.Declare.{Reading, patterns}
 use Rattle.rules.specs.Laws.PatternSteps.{worded}
 use Rattle.sexp.specs.Items.{Holds}
-use Rattle.sexp.specs.NameRows.{NameIn}
+use Rattle.sexp.specs.NameRows.{NameIn, NameRows, SomeNames}
 use Rattle.kernel.specs.Held.{Front, SymbolsHeld, SomeSymbolsHeld}
+use Rattle.cells.specs.declared.Span.{Span}
 use Rattle.kernel.specs.declared.names.SymbolTable.{SymbolTable}
 use Rattle.kernel.specs.declared.patterns.RuleReader.{RuleReader}
 
@@ -53,6 +54,10 @@ abbrev pub WordPut : List ℕ → List ℕ → ℕ → ℕ → ℕ → Result (U
 WordPut before after used next cell (Ok u) = (used < PATTERNS) × (after ≡ set before used cell) × (next ≡ used + 1)
 WordPut before after used next cell (Err e) = (PATTERNS ≤ used) × (after ≡ before) × (next ≡ used) × (e ≡ PatternWords)
 
+-- of the reader before and after
+abbrev pub WordAdded : RuleReader → RuleReader → ℕ → Result (Unit {0}) Row → Type 0
+WordAdded s t cell r = WordPut s.patterns.now t.patterns.now s.used t.used cell r
+
 -- Variables ----------------------------------------------------------------------------------------------------------------------
 
 -- so many variables in a row, and zero behind them
@@ -63,6 +68,16 @@ pub record VarsHeld (text table : List ℕ) (count : ℕ) (vs : List RuleVar) : 
   pub blank : drop (3 * count) table ≡ replicate (3 * RULEVARS - 3 * count) 0
   pub names : All (λ v. NameIn text v.name) vs
 
+-- those that a reader met, and their names
+abbrev pub VarsMet : RuleReader → List RuleVar → Type 0
+VarsMet s vs = VarsHeld s.known.text.now s.vars.now s.count vs
+
+abbrev pub NamesMet : RuleReader → List Name → Type 0
+NamesMet s ns = NameRows s.known.text.now s.vars.now 3 1 s.count ns
+
+abbrev pub SomeNamesMet : RuleReader → Type 0
+SomeNamesMet s = SomeNames s.known.text.now s.vars.now 3 1 s.count
+
 -- what `met_or_new` is given
 pub record Meeting (text : List ℕ) (start end sort : ℕ) (table : List ℕ) (count : ℕ) : Type 0 where
   pub vs : List RuleVar
@@ -72,8 +87,8 @@ pub record Meeting (text : List ℕ) (start end sort : ℕ) (table : List ℕ) (
   pub short : length text ≤ LENGTH
   pub small : sort < 2 ^ 32
 
-abbrev pub MeetingAt : RuleReader → ℕ → ℕ → ℕ → Type 0
-MeetingAt s start end sort = Meeting s.known.text.now start end sort s.vars.now s.count
+abbrev pub MeetingAt : RuleReader → Span → ℕ → Type 0
+MeetingAt s name sort = Meeting s.known.text.now name.from name.end sort s.vars.now s.count
 
 -- the variable's number, and the variables then
 pub record Met (text table : List ℕ) (R : Reading) (given : Out Reading ℕ) (i count : ℕ) : Type 0 where
@@ -86,6 +101,10 @@ pub record Met (text table : List ℕ) (R : Reading) (given : Out Reading ℕ) (
 abbrev pub MetRead : List ℕ → List ℕ → ℕ → Reading → Out Reading ℕ → Result ℕ Question → Type 0
 MetRead text table count R given (Ok i) = Met text table R given i count
 MetRead text table count R given (Err e) = given ≡ refuse (number_of e) (detail_of e) R
+
+-- of the reader before and after
+abbrev pub MetBy : RuleReader → RuleReader → Reading → Out Reading ℕ → Result ℕ Question → Type 0
+MetBy s t R given r = MetRead s.known.text.now t.vars.now t.count R given r
 
 -- Patterns -----------------------------------------------------------------------------------------------------------------------
 
@@ -157,6 +176,10 @@ pub record Head (before after : List ℕ) (used : ℕ) (T : Theory) (R : Reading
 abbrev pub HeadRead : List ℕ → List ℕ → ℕ → ℕ → Theory → Reading → ℕ → Out Reading ℕ → Result ℕ Question → Type 0
 HeadRead before after used next T R arity given (Ok c) = Head before after used T R arity given c next
 HeadRead before after used next T R arity given (Err e) = Stopped before after used given (number_of e) (detail_of e)
+
+-- of the reader before and after
+abbrev pub HeadBy : RuleReader → RuleReader → Theory → Reading → ℕ → Out Reading ℕ → Result ℕ Question → Type 0
+HeadBy s t T R arity given r = HeadRead s.patterns.now t.patterns.now s.used t.used T R arity given r
 
 -- a list that begins with a symbol: the word of the symbol is written, and its arguments are left
 pub record Opened (text cells before after : List ℕ) (used : ℕ) (T : Theory) (R : Reading) (zs : Sexps) (given : Out Reading Tree) (c next : ℕ) : Type 0 where

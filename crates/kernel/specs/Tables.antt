@@ -1,16 +1,26 @@
 -- The tables of a theory as they are lent, and what a declaration leaves in them. Assumes nothing.
-use Rattle.std.specs.Prelude.{◌≡◌, ℕ, List, Result}
+use Rattle.std.specs.Prelude.{◌≡◌, ℕ, List, length, Result}
 use Rattle.std.specs.Borrow.{Bor}
 use Rattle.questions.specs.declared.Question.{Question}
 use Rattle.rules.specs.Out.{Out}
-use Rattle.rules.specs.Theory.{Theory}
+use Rattle.rules.specs.Theory.{Theory, Symbol}
+use Rattle.cells.specs.declared.Span.{Span}
 use Rattle.kernel.specs.declared.names.SortTable.{SortTable}
 use Rattle.kernel.specs.declared.names.SymbolTable.{SymbolTable}
 use Rattle.kernel.specs.declared.tables.Tables.{Tables}
+use Rattle.kernel.specs.Held.{SymbolFits, SymbolIs}
 use Rattle.kernel.specs.Parsed.{TheoryLists, theory_lists, TheoryHeld, DeclaredAs}
 
 abbrev pub lists_of : Tables → TheoryLists
 lists_of t = theory_lists t.sorts.now t.symbols.now t.inputs.now t.rules.now t.vars.now t.patterns.now
+
+-- numbers that fit into the cells of a symbol, with a name that stands there
+abbrev pub FitsIn : Tables → ℕ → ℕ → Span → ℕ → Type 0
+FitsIn t output arity name row = SymbolFits (length t.symbols.now) (length t.inputs.now) output arity name.from name.end row
+
+-- these are the cells of a symbol, with a name that stands there
+abbrev pub SymbolAs : List ℕ → Symbol → ℕ → ℕ → Span → List ℕ → Type 0
+SymbolAs text s output arity name row = SymbolIs text s output arity name.from name.end row
 
 -- the sorts of a theory as they are read, with names in a text
 abbrev pub sorts_of : Bor (List ℕ) → Tables → SortTable

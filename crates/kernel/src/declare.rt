@@ -17,7 +17,8 @@ use questions::Question;
 use sexp::items;
 use sexp::tags::{Declaration, theory_tag};
 
-// The tag of a form, by its items.
+// The tag of a form, by its items. `tag_of_goal` and `tag_of` of `taking` are the same two lines over tables of their own; the line there says why they are no
+// one function.
 fn tag_of(text: &[u8], items: &[u32]) -> Option<Declaration>
     requires { Held text.now items.now }
     ensures { (xs : Sexps) → Holds text.now items.now xs → result ≡ declaration_answer (tagged xs) }
@@ -65,15 +66,14 @@ fn declare_items(text: &[u8], items: &[u32], tables: &mut Tables<'_>) -> Result<
     }
 }
 
-// The declaration whose cells these are; where it is refused, the tables hold what they held.
+// The declaration whose cells these are; where it is refused, the tables hold what they held. `text` and `tables` go from here through six functions: a struct
+// of both would save a word in each call and cost one in each clause, most of which speak of the text alone or of the tables before and after.
 pub fn declare(text: &[u8], cells: &[u32], tables: &mut Tables<'_>) -> Result<(), Question>
     requires { Declaring text.now cells.now (lists_of tables.old) tables.old.held }
     ensures same_tables { SameTables tables.old tables.new }
     ensures declared { (T : Theory) (x : Sexp) → Holding text.now tables.old T → Formed text.now cells.now x →
         Leaving text.now tables.new T (declare x T) result }
 {
-    let Some(inner) = items::list(cells, 0) else {
-        return Err(Question::Declaration);
-    };
+    let inner = items::list(cells, 0).ok_or(Question::Declaration)?;
     declare_items(text, inner, tables)
 }

@@ -1,15 +1,15 @@
 // Looking names up: the sort, the first predicate or the first constructor whose name has given bytes.
-ghost use Rattle.std.specs.Prelude.{◌≡◌, ℕ, List};
+ghost use Rattle.std.specs.Prelude.{◌≡◌, List};
 ghost use Rattle.rules.specs.Text.{same};
 ghost use Rattle.rules.specs.Find.{first};
 ghost use Rattle.rules.specs.Theory.{Theory, Symbol, sort_named, constructor_named, predicate_named};
-ghost use Rattle.kernel.specs.Held.{SortsHeld, SomeSorts, SymbolsHeld};
-ghost use Rattle.kernel.specs.Readers.{NamedSymbols};
+ghost use Rattle.kernel.specs.Lent.{SortsIn, SomeSortsIn, NamedIn, OfNames};
 ghost use Rattle.kernel.specs.Named.{SymbolAt, SomeSymbol, SymbolRows, SomeSymbols, kind_of, called};
 
 use cells::span_at;
 use sexp::names::{named, same};
 
+// What a symbol is, by whether it has an output.
 #[derive(Clone, Copy, Debug, PartialEq, Eq)]
 pub enum Kind {
     Constructor,
@@ -39,11 +39,10 @@ pub struct SortTable<'a> {
 impl SortTable<'_> {
     // The sort with these bytes for a name; sorts are numbered from 1.
     pub fn named(&self, name: &[u8]) -> Option<usize>
-        requires { SomeSorts self.now.text.now self.now.rows.now self.now.count }
-        ensures { (T : Theory) → SortsHeld self.now.text.now self.now.rows.now self.now.count T.sorts → result ≡ sort_named T name.now }
+        requires { SomeSortsIn self.now }
+        ensures { (T : Theory) → SortsIn self.now T.sorts → result ≡ sort_named T name.now }
     {
-        let i = named(self.text, self.rows, 2, 0, self.count, name)?;
-        Some(i + 1)
+        named(self.text, self.rows, 2, 0, self.count, name).map(|i| i + 1)
     }
 }
 
@@ -78,18 +77,16 @@ impl SymbolTable<'_> {
 
     // The constructor with these bytes for a name.
     pub fn constructor_named(&self, name: &[u8]) -> Option<usize>
-        requires { NamedSymbols self.now.text.now self.now.rows.now self.now.count }
-        ensures { (T : Theory) (inputs : List ℕ) → SymbolsHeld self.now.text.now self.now.rows.now inputs self.now.count T.symbols →
-            result ≡ constructor_named T name.now }
+        requires { NamedIn self.now }
+        ensures { OfNames self.now (λ T. result ≡ constructor_named T name.now) }
     {
         self.named(Kind::Constructor, name)
     }
 
     // The predicate with these bytes for a name.
     pub fn predicate_named(&self, name: &[u8]) -> Option<usize>
-        requires { NamedSymbols self.now.text.now self.now.rows.now self.now.count }
-        ensures { (T : Theory) (inputs : List ℕ) → SymbolsHeld self.now.text.now self.now.rows.now inputs self.now.count T.symbols →
-            result ≡ predicate_named T name.now }
+        requires { NamedIn self.now }
+        ensures { OfNames self.now (λ T. result ≡ predicate_named T name.now) }
     {
         self.named(Kind::Predicate, name)
     }

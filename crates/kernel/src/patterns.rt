@@ -8,9 +8,9 @@ ghost use Rattle.rules.specs.Theory.{Theory};
 ghost use Rattle.rules.specs.Declare.{Reading, met_or_new, variable, head, pattern};
 ghost use Rattle.rules.specs.Laws.PatternSteps.{var_named};
 ghost use Rattle.rules.specs.TheoryTables.{prefix};
-ghost use Rattle.kernel.specs.Reading.{WordFits, SameTables, SameVars, SameWords, WordPut, VarsHeld, MeetingAt, MetRead, Knows, ReadTo, AtomAt, PartRead, HeadAt, HeadRead};
-ghost use Rattle.sexp.specs.AtomText.{Spans};
-ghost use Rattle.sexp.specs.NameRows.{NameRows, SomeNames};
+ghost use Rattle.kernel.specs.Reading.{WordFits, SameTables, SameVars, SameWords, WordAdded, VarsMet, NamesMet, SomeNamesMet, MeetingAt, MetBy};
+ghost use Rattle.kernel.specs.Reading.{Knows, ReadTo, AtomAt, PartRead, HeadAt, HeadBy};
+ghost use Rattle.kernel.specs.Spelled.{StandsAt};
 
 use crate::atoms::{marked, put_span};
 use crate::names::SymbolTable;
@@ -35,7 +35,7 @@ impl RuleReader<'_, '_> {
         requires { WordFits (length self.old.patterns.now) cell }
         ensures same_tables { SameTables self.old self.new }
         ensures same_vars { SameVars self.old self.new }
-        ensures put { WordPut self.old.patterns.now self.new.patterns.now self.old.used self.new.used cell result }
+        ensures put { WordAdded self.old self.new cell result }
     {
         let at = self.used;
         if at >= rules::PATTERNS {
@@ -48,21 +48,19 @@ impl RuleReader<'_, '_> {
 
     // The number of the variable that has these bytes for a name.
     fn numbered(&self, name: &[u8]) -> Option<usize>
-        requires { SomeNames self.now.known.text.now self.now.vars.now 3 1 self.now.count }
-        ensures { (ns : List Name) → NameRows self.now.known.text.now self.now.vars.now 3 1 self.now.count ns →
-            result ≡ first (λ n. same n.bytes name.now) ns 0 }
+        requires { SomeNamesMet self.now }
+        ensures { (ns : List Name) → NamesMet self.now ns → result ≡ first (λ n. same n.bytes name.now) ns 0 }
     {
         named(self.known.text, self.vars, 3, 1, self.count, name)
     }
 
     // The number of a variable that was met before, with the sort it had, or of a new one.
     fn met_or_new(&mut self, name: Span, sort: usize) -> Result<usize, Question>
-        requires { MeetingAt self.old name.from name.end sort }
+        requires { MeetingAt self.old name sort }
         ensures same_tables { SameTables self.old self.new }
         ensures same_words { SameWords self.old self.new }
-        ensures met { (R : Reading) (n : Name) → VarsHeld self.old.known.text.now self.old.vars.now self.old.count R.vars →
-            Spans self.old.known.text.now n name.from name.end →
-            MetRead self.old.known.text.now self.new.vars.now self.new.count R (met_or_new n sort (var_named R.vars n.bytes) R) result }
+        ensures met { (R : Reading) (n : Name) → VarsMet self.old R.vars → StandsAt self.old.known.text.now n name →
+            MetBy self.old self.new R (met_or_new n sort (var_named R.vars n.bytes) R) result }
     {
         let text = self.known.text;
         let count = self.count;
@@ -83,7 +81,7 @@ impl RuleReader<'_, '_> {
         Ok(count)
     }
 
-    // A variable of a sort, and its word.
+    // A variable of a sort, and its word, made as in `keep_var` of the crate `terms`, where a line says why there is no function for both.
     fn variable(&mut self, start: usize, sort: usize) -> Result<(), Question>
         requires { AtomAt self.old start sort }
         ensures same_tables { SameTables self.old self.new }
@@ -91,11 +89,10 @@ impl RuleReader<'_, '_> {
             PartRead prefix self.old self.new
             (variable (record { start = start; bytes = letters (drop start self.old.known.text.now) }) sort R) result }
     {
-        let end = lex::atom_end(self.known.text, start);
-        if end - start < 2 {
+        let name = lex::atom_span(self.known.text, start);
+        if name.end - start < 2 {
             return Err(Question::Declared);
         }
-        let name = Span { from: start, end };
         let i = self.met_or_new(name, sort)?;
         self.word(rules::SYMBOLS + i)?;
         Ok(())
@@ -107,8 +104,7 @@ impl RuleReader<'_, '_> {
         ensures same_tables { SameTables self.old self.new }
         ensures same_vars { SameVars self.old self.new }
         ensures head { (T : Theory) (R : Reading) → Knows self.old.known T.symbols → R.words ≡ self.old.used →
-            HeadRead self.old.patterns.now self.new.patterns.now self.old.used self.new.used T R arity
-            (head T sort arity name.now R) result }
+            HeadBy self.old self.new T R arity (head T sort arity name.now R) result }
     {
         let known = self.known;
         let c = known.constructor_named(name).ok_or(Question::Declared)?;

@@ -19,9 +19,7 @@ impl RuleReader<'_, '_> {
             PartRead prefixes self.old self.new (judgments T zs R) result }
     {
         for item in items::all(cells) {
-            let Some(inner) = items::list(item, 0) else {
-                return Err(Question::Declared);
-            };
+            let inner = items::list(item, 0).ok_or(Question::Declared)?;
             self.judgment(inner)?;
         }
         Ok(())

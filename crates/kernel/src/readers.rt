@@ -2,9 +2,9 @@
 // Here and in `rule_readers` a cell is read by its place, `4 * c + 1`, and not off rows `[[u32; 4]]`: the tables are C's cells, which are written too, and behind
 // `as_chunks_mut` nothing is known of what was written (`tabled` tried it). `arity` by `as_chunks::<4>()` was tried: it proves, with a law more, and each
 // reader would cut the rows anew before it reads one cell, which is no plainer.
-ghost use Rattle.std.specs.Prelude.{◌≡◌, ℕ, ◌*◌, ◌^◌, ◌<◌, List, eqb, length, get_or};
-ghost use Rattle.rules.specs.Theory.{Theory, inputs as inputs_of, output as output_of, constructors as constructors_of};
-ghost use Rattle.kernel.specs.Held.{SymbolsHeld};
+ghost use Rattle.std.specs.Prelude.{◌≡◌, ◌*◌, ◌^◌, ◌<◌, eqb, length, get_or};
+ghost use Rattle.rules.specs.Theory.{inputs as inputs_of, output as output_of, constructors as constructors_of};
+ghost use Rattle.kernel.specs.Lent.{OfSymbol, OfInputs, OfSymbols};
 ghost use Rattle.kernel.specs.Readers.{KnownSymbol, KnownInput, KnownInputs, CountedSymbols};
 ghost use Rattle.kernel.specs.Listing.{next_constructor};
 
@@ -14,8 +14,7 @@ impl<'a> SymbolTable<'a> {
     // How many arguments symbol c takes; `arity_of` of `terms` asks the same of symbols without a theory, this one speaks of the theory.
     pub fn arity(&self, c: usize) -> usize
         requires { KnownSymbol self.now.rows.now c }
-        ensures { (T : Theory) (text inputs : List ℕ) (count : ℕ) → SymbolsHeld text self.now.rows.now inputs count T.symbols → c < count →
-            result ≡ length (inputs_of T c) }
+        ensures { OfSymbol self.now c (λ T. result ≡ length (inputs_of T c)) }
     {
         self.rows[4 * c + 1] as usize
     }
@@ -24,8 +23,7 @@ impl<'a> SymbolTable<'a> {
     // and who asks compares it with a sort.
     pub fn output(&self, c: usize) -> usize
         requires { KnownSymbol self.now.rows.now c }
-        ensures { (T : Theory) (text inputs : List ℕ) (count : ℕ) → SymbolsHeld text self.now.rows.now inputs count T.symbols → c < count →
-            result ≡ output_of T c }
+        ensures { OfSymbol self.now c (λ T. result ≡ output_of T c) }
     {
         self.rows[4 * c] as usize
     }
@@ -34,8 +32,7 @@ impl<'a> SymbolTable<'a> {
     pub fn input(&self, c: usize, k: usize) -> usize
         requires { KnownInput self.now.inputs.now c k }
         ensures small { result < 2 ^ 32 }
-        ensures sort { (T : Theory) (text symbols : List ℕ) (count : ℕ) → SymbolsHeld text symbols self.now.inputs.now count T.symbols → c < count →
-            k < length (inputs_of T c) → result ≡ get_or (inputs_of T c) k 0 }
+        ensures sort { OfInputs self.now c (λ T. k < length (inputs_of T c) → result ≡ get_or (inputs_of T c) k 0) }
     {
         self.inputs[rules::ARGUMENTS * c + k] as usize
     }
@@ -43,8 +40,7 @@ impl<'a> SymbolTable<'a> {
     // The sorts of all arguments of symbol c; `many` is how many it takes.
     pub fn inputs(&self, c: usize, many: usize) -> &'a [u32]
         requires { KnownInputs self.now.inputs.now c many }
-        ensures { (T : Theory) (text symbols : List ℕ) (count : ℕ) → SymbolsHeld text symbols self.now.inputs.now count T.symbols → c < count →
-            many ≡ length (inputs_of T c) → result.now ≡ inputs_of T c }
+        ensures { OfInputs self.now c (λ T. many ≡ length (inputs_of T c) → result.now ≡ inputs_of T c) }
     {
         let from = rules::ARGUMENTS * c;
         &self.inputs[from..from + many]
@@ -61,8 +57,7 @@ impl<'a> SymbolTable<'a> {
     // The first constructor of that sort whose number is `from` or greater. No iterator: `induct_cases` goes over items, and takes a constructor for each.
     pub fn next_constructor(&self, sort: usize, from: usize) -> Option<usize>
         requires { CountedSymbols self.now.rows.now self.now.count }
-        ensures { (T : Theory) (text inputs : List ℕ) → SymbolsHeld text self.now.rows.now inputs self.now.count T.symbols →
-            result ≡ next_constructor T sort from }
+        ensures { OfSymbols self.now (λ T. result ≡ next_constructor T sort from) }
     {
         (from..self.count).find(|c| self.gives(*c, sort))
     }
@@ -70,8 +65,7 @@ impl<'a> SymbolTable<'a> {
     // How many constructors that sort has.
     pub fn constructors(&self, sort: usize) -> usize
         requires { CountedSymbols self.now.rows.now self.now.count }
-        ensures { (T : Theory) (text inputs : List ℕ) → SymbolsHeld text self.now.rows.now inputs self.now.count T.symbols →
-            result ≡ length (constructors_of T sort) }
+        ensures { OfSymbols self.now (λ T. result ≡ length (constructors_of T sort)) }
     {
         // a row is four cells, the output first
         let (rows, _) = self.rows[..4 * self.count].as_chunks::<4>();

@@ -6,7 +6,8 @@ ghost use Rattle.rules.specs.Declare.{Reading, schema, add_rule};
 ghost use Rattle.sexp.specs.Items.{Holds};
 ghost use Rattle.kernel.specs.Held.{Form, SymbolsHeld, SomeSymbolsHeld};
 ghost use Rattle.kernel.specs.Reading.{SameTables, Knows, ReadTo, ReadSoFar};
-ghost use Rattle.kernel.specs.HeldRules.{Beginning, BeginningAt, SchemaRead, SchemaPart, RulesHeld, SomeRules, RuleFits, RuleIs, RulePut, RuleAdded};
+ghost use Rattle.kernel.specs.HeldRules.{BeginningAt, SchemaRead, SchemaPart, RulesHeld, SomeRules, RowFits, RowIs, RulePut, RuleAdded};
+ghost use Rattle.kernel.specs.Lent.{BeginningIn};
 
 use crate::atoms::put_span;
 use crate::names::SymbolTable;
@@ -27,13 +28,9 @@ impl RuleReader<'_, '_> {
             Holds self.old.known.text.now form.now xs → 4 ≡ items xs →
             SchemaPart self.old self.new (schema T xs R) result }
     {
-        let Some(premises) = items::list(form, 2) else {
-            return Err(Question::Declared);
-        };
+        let premises = items::list(form, 2).ok_or(Question::Declared)?;
         self.premises(premises)?;
-        let Some(conclusion) = items::list(form, 3) else {
-            return Err(Question::Declared);
-        };
+        let conclusion = items::list(form, 3).ok_or(Question::Declared)?;
         self.judgment(conclusion)?;
         Ok(items::count(premises))
     }
@@ -47,7 +44,8 @@ pub struct RuleSize {
     pub words: usize,
 }
 
-// What `schema` reads, into an empty row and behind the words of the rules before.
+// What `schema` reads, into an empty row and behind the words of the rules before. The row is scratch and the words are the table's, so that `RuleReader` is
+// the one struct that has both.
 fn read_rule(
     known: &SymbolTable<'_>,
     form: &[u32],
@@ -55,7 +53,7 @@ fn read_rule(
     patterns: &mut [u32],
     used: usize,
 ) -> Result<RuleSize, Question>
-    requires { Beginning known.now.text.now form.now known.now.rows.now known.now.inputs.now known.now.count row.old 0 (length patterns.old) used }
+    requires { BeginningIn known.now form.now row.old (length patterns.old) used }
     ensures { (T : Theory) (R : Reading) (xs : Sexps) → Knows known.now T.symbols → ReadSoFar known.now.text.now row.old 0 used R →
         Holds known.now.text.now form.now xs → 4 ≡ items xs →
         SchemaRead known.now.text.now row.new patterns.old patterns.new used (schema T xs R) result }
@@ -84,7 +82,7 @@ pub struct RuleRow {
     pub words: Span,
 }
 
-// Stores a rule, if there is room.
+// Stores a rule, if there is room. The tables are lent one by one, as to `add_rule`.
 fn store(
     rules: &mut [u32],
     vars: &mut [u32],
@@ -92,10 +90,9 @@ fn store(
     row: RuleRow,
     names: &[u32],
 ) -> Result<(), Row>
-    requires { RuleFits (length rules.old) (length vars.old) row.name.from row.name.end row.variables row.premises row.words.from row.words.end (length names.now) }
+    requires { RowFits (length rules.old) (length vars.old) row (length names.now) }
     ensures { (text patterns : List ℕ) (rs : List Rule) (u : Rule) → RulesHeld text rules.old vars.old patterns count row.words.from rs →
-        RuleIs text patterns u row.name.from row.name.end row.variables row.premises row.words.from row.words.end names.now →
-        RulePut text rules.old vars.old rules.new vars.new patterns count row.words.end rs u result }
+        RowIs text patterns u row names.now → RulePut text rules.old vars.old rules.new vars.new patterns count row.words.end rs u result }
 {
     if count >= rules::RULES {
         return Err(Row::Rules);

@@ -8,8 +8,9 @@ ghost use Rattle.rules.specs.Declare.{sorts as argument_sorts, add_symbol, add_c
 ghost use Rattle.rules.specs.Laws.Declaring.{arguments_of};
 ghost use Rattle.sexp.specs.Items.{Holds};
 ghost use Rattle.kernel.specs.Spelled.{Reaching};
-ghost use Rattle.kernel.specs.Held.{Form, SortsHeld, SomeSorts, Gathering, ArgumentsRead, SymbolFits, SymbolIs};
-ghost use Rattle.kernel.specs.Tables.{SameTables, Holding, HoldingSome, Leaving};
+ghost use Rattle.kernel.specs.Lent.{SortsIn, SomeSortsIn, GatheringIn};
+ghost use Rattle.kernel.specs.Held.{Form, ArgumentsRead};
+ghost use Rattle.kernel.specs.Tables.{SameTables, Holding, HoldingSome, Leaving, FitsIn, SymbolAs};
 
 use crate::atoms::put_span;
 use crate::names::{Kind, SortTable};
@@ -21,8 +22,8 @@ use sexp::items;
 
 // The sorts that the items name, into an empty row: how many.
 fn argument_sorts(sorts: &SortTable<'_>, cells: &[u32], row: &mut [u32]) -> Result<usize, Question>
-    requires { let s = sorts.now in Gathering s.text.now cells.now s.rows.now s.count (length row.old) }
-    ensures { (T : Theory) (xs : Sexps) → let s = sorts.now in SortsHeld s.text.now s.rows.now s.count T.sorts → Holds s.text.now cells.now xs →
+    requires { GatheringIn sorts.now cells.now (length row.old) }
+    ensures { (T : Theory) (xs : Sexps) → SortsIn sorts.now T.sorts → Holds sorts.now.text.now cells.now xs →
         ArgumentsRead row.old row.new 0 (argument_sorts T xs 0 tt) result }
 {
     for (k, item) in items::all(cells).enumerate() {
@@ -35,21 +36,21 @@ fn argument_sorts(sorts: &SortTable<'_>, cells: &[u32], row: &mut [u32]) -> Resu
     Ok(items::count(cells))
 }
 
-// The sorts that the items of a declaration's third item name, into an empty row.
+// The sorts that the items of a declaration's third item name, into an empty row. `declare` cuts a list and hands it on too; one function for both would be
+// handed what is asked and promised of each, to share these two lines.
 fn arguments_at(sorts: &SortTable<'_>, form: &[u32], row: &mut [u32]) -> Result<usize, Question>
     requires reaching { Reaching sorts.now.text.now form.now 2 }
-    requires some_sorts { SomeSorts sorts.now.text.now sorts.now.rows.now sorts.now.count }
+    requires some_sorts { SomeSortsIn sorts.now }
     requires row_len { length row.old ≡ ARGUMENTS }
-    ensures { (T : Theory) (xs : Sexps) → let s = sorts.now in SortsHeld s.text.now s.rows.now s.count T.sorts → Holds s.text.now form.now xs → 2 < items xs →
+    ensures { (T : Theory) (xs : Sexps) → SortsIn sorts.now T.sorts → Holds sorts.now.text.now form.now xs → 2 < items xs →
         ArgumentsRead row.old row.new 0 (arguments_of T (item xs 2)) result }
 {
-    let Some(arguments) = items::list(form, 2) else {
-        return Err(Question::Declared);
-    };
+    let arguments = items::list(form, 2).ok_or(Question::Declared)?;
     argument_sorts(sorts, arguments, row)
 }
 
-// Stores a symbol, if there is room.
+// Stores a symbol, if there is room. Whether its name is free is asked by `add_ctor` and `add_pred`: in here it would take the text and the kind too, and the
+// contract would have to say for each kind how the definition's `add_ctor` or `add_pred` ends, to share five lines.
 fn store(
     tables: &mut Tables<'_>,
     output: usize,
@@ -57,10 +58,10 @@ fn store(
     name: Span,
     row: &[u32],
 ) -> Result<(), Question>
-    requires { SymbolFits (length tables.old.symbols.now) (length tables.old.inputs.now) output arity name.from name.end (length row.now) }
+    requires { FitsIn tables.old output arity name (length row.now) }
     ensures same_tables { SameTables tables.old tables.new }
     ensures declared { (text : List ℕ) (T : Theory) (s : Symbol) → Holding text tables.old T →
-        SymbolIs text s output arity name.from name.end row.now → Leaving text tables.new T (add_symbol s T) result }
+        SymbolAs text s output arity name row.now → Leaving text tables.new T (add_symbol s T) result }
 {
     let count = tables.held.symbols;
     if count >= rules::SYMBOLS {

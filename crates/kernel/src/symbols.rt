@@ -9,7 +9,8 @@ ghost use Rattle.sexp.specs.Items.{item_of, Holds};
 ghost use Rattle.rules.specs.Laws.Declaring.{proper, sort_of};
 ghost use Rattle.kernel.specs.Spelled.{Reaching, name_of};
 ghost use Rattle.sexp.specs.FirstItem.{SomeItem};
-ghost use Rattle.kernel.specs.Held.{Form, SortsHeld, SomeSorts};
+ghost use Rattle.kernel.specs.Held.{Form};
+ghost use Rattle.kernel.specs.Lent.{SortsIn, SomeSortsIn};
 ghost use Rattle.kernel.specs.Tables.{SameTables, Holding, HoldingSome, Leaving};
 
 use crate::atoms::{marked, put_span};
@@ -31,8 +32,7 @@ pub fn proper(text: &[u8], item: Item) -> Result<Span, Question>
     if marked(text, start) {
         return Err(Question::Declared);
     }
-    let end = lex::atom_end(text, start);
-    Ok(Span { from: start, end })
+    Ok(lex::atom_span(text, start))
 }
 
 // The same of the item with that number.
@@ -48,9 +48,9 @@ impl SortTable<'_> {
     // The number of the sort that an item of the text names, from 1 on.
     pub fn sort(&self, item: Item) -> Result<usize, Question>
         requires some_item { SomeItem self.now.text.now item }
-        requires some_sorts { SomeSorts self.now.text.now self.now.rows.now self.now.count }
+        requires some_sorts { SomeSortsIn self.now }
         ensures { (x : Sexp) (at : ℕ) → item ≡ item_of at x → Spelt self.now.text.now x →
-            (ns : List Name) → SortsHeld self.now.text.now self.now.rows.now self.now.count ns → result ≡ ok_or (sort_of ns x) Declared }
+            (ns : List Name) → SortsIn self.now ns → result ≡ ok_or (sort_of ns x) Declared }
     {
         let name = proper(self.text, item)?;
         let bytes = name.of(self.text);

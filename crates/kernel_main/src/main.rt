@@ -68,11 +68,12 @@ fn show_tables<W: Write>(out: &mut W, tables: &Tables<'_>) -> io::Result<()>
     show_row(out, "patterns", &tables.patterns[..words])
 }
 
-fn main(rt: HostRuntime) -> io::Result<()> {
+fn run(rt: &HostRuntime) -> io::Result<()> {
     let alloc = rt.alloc();
     // as sexp_main reads its input: the two share no crate that knows of input, and a new one for four lines is no plainer
     let mut text = Vec::new(alloc);
-    rt.reader().take(INPUT as u64).read_to_end(&mut text)?;
+    // where reading fails, what came before is gone through
+    let _ = rt.reader().take(INPUT as u64).read_to_end(&mut text);
     // no clause says how much a reader gives
     text.truncate(INPUT);
     let mut cells = vec![in alloc; 0; text.len()]?;
@@ -91,8 +92,13 @@ fn main(rt: HostRuntime) -> io::Result<()> {
         patterns: &mut patterns,
         held: Counts::NONE,
     };
-    let mut out = BufWriter::new(alloc, io::writer(&rt))?;
+    let mut out = BufWriter::new(alloc, io::writer(rt))?;
     show_answer(&mut out, parse(&text, &mut cells, &mut tables))?;
     show_tables(&mut out, &tables)?;
     out.flush()
+}
+
+// The status is 0 whatever comes, and what cannot be written is left out.
+fn main(rt: HostRuntime) {
+    let _ = run(&rt);
 }

@@ -4,27 +4,28 @@ use crate::checked::Checked;
 use facts::Fact;
 use rules::{RULES, RULEWORDS};
 use std::alloc::Global;
-use std::io::Write;
-use std::{fmt, io};
+use std::io::{self, Write};
 use terms::sets::has;
 
-// What stands before item i of a list: one space between two of them. One writer for numbers and names, over an iterator of what is `Display`, was tried: its
-// loop has to be proved to end for every iterator, which is no plainer. Terms need the heap, so that they are no `Display`.
-fn gap(i: usize) -> &'static str {
-    if i == 0 { "" } else { " " }
+// The entries of a list as the closure writes each, one space between two of them.
+fn write_list<W: Write, F: Fn(u32, &mut W) -> io::Result<()>>(
+    list: &[u32],
+    out: &mut W,
+    each: F,
+) -> io::Result<()>
+    requires { F.IsAlwaysCallable each }
+{
+    for (i, entry) in list.iter().enumerate() {
+        if 0 < i {
+            write!(out, " ")?;
+        }
+        each(*entry, out)?;
+    }
+    Ok(())
 }
 
-// Numbers of a list.
-#[derive(Clone, Copy)]
-struct Numbers<'a>(&'a [u32]);
-
-impl fmt::Display for Numbers<'_> {
-    fn fmt<W: fmt::Write>(&self, f: &mut fmt::Formatter<W>) -> fmt::Result {
-        for (i, n) in self.0.iter().enumerate() {
-            write!(f, "{}{n}", gap(i))?;
-        }
-        Ok(())
-    }
+fn write_number<W: Write>(n: u32, out: &mut W) -> io::Result<()> {
+    write!(out, "{n}")
 }
 
 // The first so many entries, and those behind them.
@@ -33,21 +34,6 @@ fn cut(entries: &[u32], many: u32) -> (&[u32], &[u32]) {
 }
 
 impl Checked<'_> {
-    fn write_terms<W: Write>(&self, alloc: Global, terms: &[u32], out: &mut W) -> io::Result<()> {
-        for (i, term) in terms.iter().enumerate() {
-            write!(out, "{}", gap(i))?;
-            self.write_term(alloc, *term, out)?;
-        }
-        Ok(())
-    }
-
-    fn write_variables<W: Write>(&self, variables: &[u32], out: &mut W) -> io::Result<()> {
-        for (i, v) in variables.iter().enumerate() {
-            write!(out, "{}{}", gap(i), self.variable_name(*v as usize))?;
-        }
-        Ok(())
-    }
-
     fn write_fact<W: Write>(
         &self,
         alloc: Global,
@@ -61,10 +47,14 @@ impl Checked<'_> {
         let (general, _) = cut(entries, fact.general);
         write!(out, "(fact {k} ")?;
         self.write_term(alloc, fact.judgment, out)?;
-        write!(out, " ({}) {} (", Numbers(hyps), fact.assumed)?;
-        self.write_terms(alloc, premises, out)?;
+        write!(out, " (")?;
+        write_list(hyps, out, write_number)?;
+        write!(out, ") {} (", fact.assumed)?;
+        write_list(premises, out, |term, out| self.write_term(alloc, term, out))?;
         write!(out, ") (")?;
-        self.write_variables(general, out)?;
+        write_list(general, out, |v, out| {
+            write!(out, "{}", self.variable_name(v as usize))
+        })?;
         writeln!(out, "))")
     }
 
@@ -85,7 +75,9 @@ impl Checked<'_> {
     // The list ends with its first 0.
     fn write_missing<W: Write>(&self, out: &mut W) -> io::Result<()> {
         let goals = self.missing.split(|n| *n == 0).next().unwrap_or(&[]);
-        writeln!(out, "(missing [{}])", Numbers(goals))
+        write!(out, "(missing [")?;
+        write_list(goals, out, write_number)?;
+        writeln!(out, "])")
     }
 
     pub fn write_recorded<W: Write>(&self, alloc: Global, out: &mut W) -> io::Result<()> {

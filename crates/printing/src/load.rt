@@ -75,10 +75,9 @@ impl LoadError {
 fn write_failure<W: Write>(what: &[u8], error: Error, out: &mut W) -> io::Result<()> {
     let text = InlineText::<256>::of(error);
     let said = text.as_str();
-    let why = match said.split_once(" (os error ") {
-        Some((front, _)) => front,
-        None => said,
-    };
+    let why = said
+        .split_once(" (os error ")
+        .map_or(said, |(front, _)| front);
     out.write_all(what)?;
     writeln!(out, ": {why}")
 }
@@ -87,9 +86,7 @@ fn write_failure<W: Write>(what: &[u8], error: Error, out: &mut W) -> io::Result
 fn read_file<R: Files + AllocGlobal>(rt: &R, name: &[u8]) -> io::Result<Vec<u8>>
     ensures { IfOk result (λ text. vec_len text ≤ 65537) }
 {
-    let Ok(path) = str::from_utf8(name) else {
-        return Err(Error::from_raw_os_error(MISSING));
-    };
+    let path = str::from_utf8(name).map_err(|_| Error::from_raw_os_error(MISSING))?;
     let mut text = Vec::new(rt.alloc());
     fs::open(rt, path)?
         .take(TEXT as u64)
@@ -105,7 +102,7 @@ fn read_named<R: Files + AllocGlobal>(rt: &R, name: Vec<u8>) -> Result<Vec<u8>, 
     read_file(rt, &name).map_err(|error| LoadError::File { name, error })
 }
 
-// What argument i says. It is bytes, since a name that is not UTF-8 is named in the message.
+// What argument i says, as bytes: `env::args` of the library gives none where one is not UTF-8, and the message has to name such a file.
 fn argument<R: Env + AllocGlobal>(rt: &R, i: usize) -> Result<Vec<u8>, LoadError> {
     let mut name = [0u8; 4096];
     let n = rt.arg(i, &mut name)?;

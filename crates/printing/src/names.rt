@@ -25,7 +25,8 @@ impl fmt::Display for Name<'_> {
     }
 }
 
-// The text whose number a cell holds; none for 0, which a variable that was made has: docs/TABLES.md
+// The text whose number a cell holds; none for 0, which a variable that was made has: docs/TABLES.md. No `TryFrom<u32> for Text`: it would be public, with
+// an error that its one caller, this crate, drops, and no shorter.
 pub(crate) fn text_in(cell: u32) -> Option<Text> {
     [Text::Theory, Text::Goals, Text::Proof]
         .iter()
@@ -33,7 +34,7 @@ pub(crate) fn text_in(cell: u32) -> Option<Text> {
         .find(|text| text.number() == cell as usize)
 }
 
-// A part of a text.
+// A part of a text. Its ends are cells as they stand, and no `Span`, whose `of` asks that it lie in the text.
 fn part(text: &[u8], from: u32, to: u32) -> &str {
     text.get(from as usize..to as usize)
         .filter(|name| !name.is_empty())
@@ -46,20 +47,18 @@ impl<'a> Checked<'a> {
     pub(crate) fn rule_name(&self, rule: usize) -> &'a str {
         self.rules
             .get(rule)
-            .map_or("?", |row| part(self.texts.theory, row[0], row[1]))
+            .map_or("?", |[from, to, ..]| part(self.texts.theory, *from, *to))
     }
 
     fn symbol_name(&self, symbol: usize) -> &'a str {
-        self.symbols
-            .get(symbol)
-            .map_or("?", |row| part(self.texts.theory, row[2], row[3]))
+        self.symbols.get(symbol).map_or("?", |[_, _, from, to]| part(self.texts.theory, *from, *to))
     }
 
     pub(crate) fn variable_name(&self, v: usize) -> Name<'a> {
-        self.vars.get(v).filter(|row| row[2] < row[3]).map_or(
-            Name::Made(v),
-            |row| Name::Written(part(self.text(row[1]), row[2], row[3])),
-        )
+        self.vars
+            .get(v)
+            .and_then(|[_, text, from, to]| Some(part(self.text(text_in(*text)?), *from, *to)))
+            .map_or(Name::Made(v), Name::Written)
     }
 
     pub(crate) fn head_name(&self, head: Head) -> Name<'a> {
@@ -69,19 +68,18 @@ impl<'a> Checked<'a> {
         }
     }
 
-    // The text in which a variable's name stands, by the number in its cell.
-    fn text(&self, cell: u32) -> &'a [u8] {
-        match text_in(cell) {
-            Some(Text::Goals) => self.texts.goals,
-            Some(Text::Proof) => self.texts.proof,
-            Some(Text::Theory) | None => self.texts.theory,
+    fn text(&self, text: Text) -> &'a [u8] {
+        match text {
+            Text::Theory => self.texts.theory,
+            Text::Goals => self.texts.goals,
+            Text::Proof => self.texts.proof,
         }
     }
 
     // 0 in a cell is none: docs/TABLES.md
     pub(crate) fn is_predicate(&self, head: Head) -> bool {
         match head {
-            Head::Symbol(c) => self.symbols.get(c).is_some_and(|row| row[0] == 0),
+            Head::Symbol(c) => self.symbols.get(c).is_some_and(|[output, ..]| *output == 0),
             Head::Variable(_) => false,
         }
     }

@@ -19,10 +19,10 @@ impl Checked<'_> {
                 let vars = self
                     .vars
                     .iter()
-                    .filter(|row| text_in(row[1]) == Some(Text::Proof))
+                    .filter(|[_, text, ..]| text_in(*text) == Some(Text::Proof))
                     .count();
-                let defs = self.defs.iter().filter(|row| row[1] != 0).count();
-                let taken = self.rows.iter().filter(|row| row[5] != 0).count();
+                let defs = self.defs.iter().filter(|[_, end, _]| *end != 0).count();
+                let taken = self.rows.iter().filter(|[.., taken]| *taken != 0).count();
                 stopped
                     .refused
                     .form

@@ -5,7 +5,7 @@ use std::alloc::Global;
 use std::io;
 use std::io::Write;
 use std::slice::Iter;
-use terms::heads::head_of;
+use terms::heads::Head;
 
 // What may be written of one term.
 const BYTES: usize = 1000000;
@@ -50,7 +50,7 @@ impl<'a> Checked<'a> {
         let Some((word, arguments)) = self.words_of(term as usize) else {
             return write!(out, "?");
         };
-        let head = head_of(*word);
+        let head = Head::from(*word);
         let name = self.head_name(head);
         if arguments.is_empty() && !self.is_predicate(head) {
             return write!(out, "{name}");

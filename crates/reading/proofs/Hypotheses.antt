@@ -1,12 +1,12 @@
 -- The loop over a list of hypotheses: each an earlier fact that passes the test. Assumes nothing.
 use mathlib.Core.Path.{◌≡◌, refl, sym, ap, ◌∙◌, subst}
 use mathlib.Core.Bool.{Bool, true, false, not}
-use Rattle.std.specs.Prelude.{Option, Some as some, None as nothing, Result, Ok, Err}
+use Rattle.std.specs.Prelude.{Option, Some as some, None as nothing, Result}
 use mathlib.Core.List.{List, [], ◌∷◌, ◌++◌, append-nil, append_assoc}
 use Prim.Native.Nat.{ℕ, ◌-◌, ◌*◌, ◌<◌, ◌≤◌}
 use native.Mathlib.Omega.{arith}
 use lib.Dec.{eqb}
-use lib.ListN.{length, take, drop, replicate, length-replicate}
+use lib.ListN.{length, take, drop, replicate}
 use Rattle.rules.specs.Limits.{FACTS, FACTWORDS}
 use Rattle.rules.specs.Out.{Out, ok, refuse, then, ask, found}
 use Rattle.rules.specs.Find.{has, entry, rising}
@@ -32,10 +32,8 @@ use Rattle.state.specs.RowTables.{tabled_long}
 use Rattle.state.specs.FactLaws.{facts_tabled, fact_row_lem}
 use Rattle.reading.specs.Items.{FirstItem, index_in, index_found}
 use Rattle.reading.specs.Given.{FactsItem, FactsItems}
-use Rattle.cells.specs.Cleared.{ClearedBy}
 use Rattle.reading.specs.Answers.{HypsRead, HypsAs}
 use Rattle.questions.specs.declared.Question.{Question}
-use Rattle.reading.proofs.Filling.{cleared}
 use Rattle.reading.specs.Laws.Walks.{Here, here, go_on, then_same}
 use Rattle.reading.specs.Earlier.{Missing}
 use Rattle.reading.specs.Laws.Lists.{has_snoc, no_entry}
@@ -216,17 +214,9 @@ module _ {text facts cells : List ℕ} {n : Sizes} (g : FactsItem text facts n c
         holds = l.holds;
       }
 
-  hyps_inside : (p : Fact → Bool) (before set : List ℕ) (r : Result (Unit {0}) Question) → HypsAs p g.S (list l.items) before set r → HypsAs p g.S g.x before set r
-  hyps_inside p before set r h = subst (λ (z : Sexp). HypsAs p g.S z before set r) (sym l.is) h
-
-  -- it is read, or refused: then the set, which was empty before, is cleared
-  pub hyps_read : (p : Fact → Bool) (set : List ℕ) (r : Result (Unit {0}) Question) → HypsAs p g.S (list l.items) set set r → {before : List ℕ} (last : List ℕ) →
-      before ≡ replicate FACTWORDS 0 → length set ≡ length before → ClearedBy 0 r set last → HypsAs p g.S g.x before last r
-  hyps_read p set r h {before} last o s c = go r (hyps_inside p set set r h) c
-    where
-      go : (z : Result (Unit {0}) Question) → HypsAs p g.S g.x set set z → ClearedBy 0 z set last → HypsAs p g.S g.x before last z
-      go (Ok _) k f = rw f k
-      go (Err q) k f = (k.0, (cleared set o (s ∙ ap length o ∙ length-replicate {A = ℕ} FACTWORDS 0) f, k.1.1))
+  -- it is read, or refused
+  pub hyps_read : (p : Fact → Bool) (r : Result (List ℕ) Question) → HypsAs p g.S (list l.items) r → HypsAs p g.S g.x r
+  hyps_read p r h = subst (λ (z : Sexp). HypsAs p g.S z r) (sym l.is) h
 
 -- The tests -------------------------------------------------------------------------------------------------------------------------------
 

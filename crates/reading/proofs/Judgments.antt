@@ -6,7 +6,7 @@ use native.Mathlib.Omega.{arith}
 use lib.ListN.{length, take, drop, get_or, set, replicate, length-set}
 use Rattle.rules.specs.Limits.{TERMS}
 use Rattle.rules.specs.Out.{Out, ok, refuse, then}
-use Rattle.rules.specs.Sexp.{Sexp, Sexps, atom, list, items}
+use Rattle.rules.specs.Sexp.{Sexp, Sexps, atom, list, items, count as count_items}
 use Rattle.rules.specs.Tree.{Trees, more}
 use Rattle.rules.specs.Store.{Made}
 use Rattle.rules.specs.State.{State}
@@ -66,7 +66,7 @@ pub record Judging (K : Names) (n : Sizes) (I W : List ℕ) (old : Mark) (S : St
   pub reads : Reads K n J X now S
   pub count : k ≡ length ns
   pub cells_are : out ≡ filled (length out) ns
-  pub short : k ≤ at
+  pub many : count_items xs ≡ k + count_items left
 
 pub judging_start : {K : Names} {n : Sizes} {I W : List ℕ} {m : Mark} {S : State} {xs : Sexps} {cells out : List ℕ} → Reads K n I W m S →
     Holds K.text cells xs → out ≡ replicate (length out) 0 → Judging K n I W m S xs cells I W out m 0 0
@@ -81,15 +81,15 @@ judging_start {I = I} {W} {m} {S} {xs} {out = out} r h e =
       reads = r;
       count = refl;
       cells_are = e ∙ sym (filled_none (length out));
-      short = omega arith;
+      many = omega arith;
     }
 
 module _ {K : Names} {n : Sizes} {I W : List ℕ} {old : Mark} {S : State} {xs : Sexps} {cells J X out : List ℕ} {now : Mark} {k at : ℕ}
     (h : Judging K n I W old S xs cells J X out now k at) where
   -- nothing is left
-  pub judging_over : length cells ≤ at → JudgmentsRead I W J X old (judgments S (list xs) (made I W old)) out k now
-  unfolding judgment_each then
-  judging_over l =
+  pub judging_over : length cells ≤ at → {many : ℕ} → many ≡ count_items xs → JudgmentsRead I W J X old (judgments S (list xs) (made I W old)) out many now
+  unfolding judgment_each then count_items
+  judging_over l c =
       let M = made J X now in
       let e : then (judgment_each S h.left M) (after M h.ns) ≡ ok (args_of M h.ns) M =
       ap (λ (z : Sexps). then (judgment_each S z M) (after M h.ns)) (walk_over h.walk l) ∙ ap (λ (ts : Trees). ok ts M) (ahead_none M h.ns) in
@@ -98,7 +98,7 @@ module _ {K : Names} {n : Sizes} {I W : List ℕ} {old : Mark} {S : State} {xs :
       record {
         trees = args_of M h.ns;
         went = on_done (on_is h.on e);
-        count = h.count ∙ sym (args_count M h.ns);
+        count = omega (arith, c, h.many, ap count_items (walk_over h.walk l), h.count, args_count M h.ns);
         cells_are = h.cells_are ∙ ap (filled (length out)) (sym (numbers_args M h.reads.good.apart h.ns b));
       }
 
@@ -140,7 +140,7 @@ module _ {K : Names} {n : Sizes} {I W : List ℕ} {old : Mark} {S : State} {xs :
 
         pub judging_more : {out' : List ℕ} {next : ℕ} → out' ≡ set out k t → next ≡ behind at (item_at cells at) →
             Judging K n I W old S xs cells Y Z out' new (k + 1) next
-        unfolding then
+        unfolding then count_items
         judging_more {out'} {next} o e =
             let y = judging_here in
             let ns = h.ns in
@@ -158,7 +158,7 @@ module _ {K : Names} {n : Sizes} {I W : List ℕ} {old : Mark} {S : State} {xs :
               reads = reads_judgment h.reads y.x w.went;
               count = omega (arith, h.count, length_snoc ns t);
               cells_are = subst (λ (j : ℕ). out' ≡ filled j (ns ++ (t ∷ []))) (sym (ap length o ∙ length-set out k t)) (o ∙ put_more (length out) ns t h.cells_are h.count);
-              short = omega (arith, h.short, g.on);
+              many = omega (arith, h.many, ap count_items y.is);
             }
 
 -- A list among items -----------------------------------------------------------------------------------------------------------------------

@@ -13,4 +13,3 @@ pub mod TermHeads
 pub mod TermBehind
 pub mod TermItems
 pub mod TermSorted
-pub mod Missing

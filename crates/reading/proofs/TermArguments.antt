@@ -13,7 +13,7 @@ use lib.Seq.{take-suc, take-suc-set, take_all, length-take-le}
 use borrow.Author.Tests.{lt-ltb}
 use Rattle.rules.specs.Limits.{SYMBOLS, ARGUMENTS, TERMS, NODE}
 use Rattle.rules.specs.Out.{ok, then, ask}
-use Rattle.rules.specs.Sexp.{Sexps, cons}
+use Rattle.rules.specs.Sexp.{Sexps, cons, count as count_items}
 use Rattle.rules.specs.Tree.{Trees, more, count_trees}
 use Rattle.rules.specs.Theory.{no_symbol, inputs}
 use Rattle.rules.specs.State.{State, sort_of, fit}
@@ -76,6 +76,7 @@ pub record Going (K : Names) (n : Sizes) (I W : List ℕ) (old : Mark) (cells : 
   pub counted : count ≡ length (inputs S.theory c)
   pub known : c < n.symbols
   pub few : k ≤ at
+  pub all : count_items xs ≡ k + count_items left
 
 pub going_begins : {K : Names} {n : Sizes} {I W : List ℕ} {m : Mark} {cells : List ℕ} {S : State} {xs : Sexps} → Reads K n I W m S → Holds K.text cells xs →
     (c count : ℕ) (node start : List ℕ) → c < n.symbols → length start ≡ NODE → node ≡ set start 0 c → count ≡ length (inputs S.theory c) →
@@ -96,6 +97,7 @@ going_begins {I = I} {W} {m} {S = S} {xs} r h c count node start l e d q =
       counted = q;
       known = l;
       few = omega arith;
+      all = omega arith;
     }
 
 put_long : (node after : List ℕ) (k t : ℕ) (b : Bool) → after ≡ elim b [ true ↦ set node (k + 1) t | false ↦ node ] → length after ≡ length node
@@ -198,6 +200,10 @@ module _ {K : Names} {n : Sizes} {I W : List ℕ} {old : Mark} {cells : List ℕ
             ∙ take-suc-set node (k + 1) t (omega (arith, b, g.long))
             ∙ ap (λ (ws : List ℕ). ws ++ (t ∷ [])) (g.puts (omega (arith, b)))
 
+        next_all : count_items xs ≡ k + 1 + count_items more_left.others
+        unfolding count_items
+        next_all = omega (arith, g.all, ap count_items more_left.is)
+
         pub going_on : (after : List ℕ) → after ≡ elim (ltb k ARGUMENTS) [ true ↦ set node (k + 1) t | false ↦ node ] →
             {right : Bool} → right ≡ ltb k count && eqb sort (get_or (inputs S.theory c) k 0) → {both : Bool} → both ≡ fits && right →
             Going K n I W old cells c count S xs Y Z after new next.at (k + 1) both
@@ -216,7 +222,16 @@ module _ {K : Names} {n : Sizes} {I W : List ℕ} {old : Mark} {cells : List ℕ
               counted = g.counted;
               known = g.known;
               few = omega (arith, g.few, walk_on first_walk w.behind);
+              all = next_all;
             }
+
+        -- the same, by a number that is k
+        pub going_at : (after : List ℕ) {j : ℕ} → j ≡ k → after ≡ elim (ltb j ARGUMENTS) [ true ↦ set node (j + 1) t | false ↦ node ] →
+            {right : Bool} → right ≡ ltb j count && eqb sort (get_or (inputs S.theory c) j 0) → {both : Bool} → both ≡ fits && right →
+            Going K n I W old cells c count S xs Y Z after new next.at (k + 1) both
+        going_at after q d {right} s b =
+            going_on after (subst (λ (j : ℕ). after ≡ elim (ltb j ARGUMENTS) [ true ↦ set node (j + 1) t | false ↦ node ]) q d)
+            (subst (λ (j : ℕ). right ≡ ltb j count && eqb sort (get_or (inputs S.theory c) j 0)) q s) b
 
   -- nothing is left
   module _ (l : length cells ≤ at) where
@@ -251,6 +266,11 @@ module _ {K : Names} {n : Sizes} {I W : List ℕ} {old : Mark} {cells : List ℕ
       | no z ↦ fit_count S.theory S.vars (args_of (made J X m) g.ids) (inputs S.theory c) (λ e. z (sym all_many ∙ e ∙ sym g.counted))
     ]
 
+    -- so many items were there
+    pub going_items : {n : ℕ} → n ≡ count_items xs → n ≡ k
+    unfolding count_items
+    going_items e = omega (arith, e, g.all, ap count_items (walk_over g.walk l))
+
     pub going_misfits : (fits ≡ true → k ≡ count → ⊥) → Stopped I W J X old (then (terms S xs (made I W old)) (fitting S c)) 23 0 m
     unfolding then
     going_misfits w =
@@ -261,15 +281,16 @@ module _ {K : Names} {n : Sizes} {I W : List ℕ} {old : Mark} {cells : List ℕ
               ∙ ap (λ (b : Bool). then (ask 23 b (made J X m)) (λ _ u. ok (args_of (made J X m) g.ids) u)) (misfit w);
         }
 
-    pub going_ends : fits ≡ true → k ≡ count → ArgumentsRead I W J X old S c node (terms S xs (made I W old)) (k + 1) m
-    going_ends f e =
+    pub going_ends : {n : ℕ} → n ≡ count_items xs → fits ≡ true → n ≡ count → ArgumentsRead I W J X old S c node (terms S xs (made I W old)) (count + 1) m
+    going_ends i f q =
+        let e : k ≡ count = sym (going_items i) ∙ q in
         record {
           trees = args_of (made J X m) g.ids;
           went = on_done over_on;
           fits = sym (all_fit e) ∙ f;
-          many = ap (λ (j : ℕ). j + 1) (sym all_many);
-          tree_is = ap (tree_at (made J X m)) (node_is e) ∙ tree_app (made J X m) c g.ids (symbol_small g.reads g.known);
-          good = subst (Node m.terms) (sym (node_is e)) (node_good e);
+          many = ap (λ (j : ℕ). j + 1) (sym (all_many ∙ e));
+          tree_is = ap (λ (j : ℕ). tree_at (made J X m) (take (j + 1) node)) (sym e) ∙ ap (tree_at (made J X m)) (node_is e) ∙ tree_app (made J X m) c g.ids (symbol_small g.reads g.known);
+          good = subst (λ (j : ℕ). Node m.terms (take (j + 1) node)) e (subst (Node m.terms) (sym (node_is e)) (node_good e));
         }
 
 -- the cells that are left are no more than all

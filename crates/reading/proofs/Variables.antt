@@ -4,11 +4,11 @@ use mathlib.Core.Bool.{Bool, true, false, true≢false, false≢true}
 use Rattle.std.specs.Prelude.{Some as some, None as nothing, Option}
 use Rattle.std.specs.Option.{is_some}
 use mathlib.Core.List.{List, [], ◌∷◌, ◌++◌}
-use Prim.Native.Nat.{ℕ, ◌+◌, ◌-◌, ◌<◌, ◌≤◌}
+use Prim.Native.Nat.{ℕ, ◌+◌, ◌-◌, ◌*◌, ◌<◌, ◌≤◌}
 use native.Mathlib.Omega.{arith}
 use lib.ListN.{length, take, drop, set, replicate, length-replicate}
 use Rattle.rules.specs.Limits.{VARIABLES, VARIABLEWORDS}
-use Rattle.rules.specs.Find.{Set, has}
+use Rattle.rules.specs.Find.{Set, has, rising}
 use Rattle.rules.specs.Sexp.{Sexp, Sexps, atom, list, cons}
 use Rattle.rules.specs.State.{Var}
 use Rattle.rules.specs.TheoryTables.{filled}
@@ -24,7 +24,7 @@ use Rattle.reading.specs.Items.{FirstItem, variable_in, others_in, vars_in}
 use Rattle.reading.specs.Answers.{VarsRead, VarsAs}
 use Rattle.reading.specs.Given.{VarsItem, VarsItems}
 use Rattle.reading.specs.Laws.Walks.{Here, here, go_on}
-use Rattle.reading.specs.Laws.Lists.{Listing, listing_none, listing_few, listing_more, variable_below, others_none, others_twice, others_more, has_snoc}
+use Rattle.reading.specs.Laws.Lists.{Listing, listing_none, listing_few, listing_more, listing_count, variable_below, others_none, others_twice, others_more, has_snoc}
 use Rattle.reading.proofs.Filling.{length_snoc, put_more, cleared}
 
 -- an atom is no list
@@ -63,14 +63,16 @@ abbrev pub Named : List Var → List ℕ → List ℕ → ℕ → Option ℕ →
 Named vs text cells at r = (x : Sexp) (ys : Sexps) → Holds text (take (length cells - at) (drop at cells)) (cons x ys) → r ≡ (variable_in vs x)
 
 module _ {vs : List Var} {xs : Sexps} {text cells out seen : List ℕ} {k at : ℕ} (h : Varing vs xs text cells out seen k at) where
-  -- nothing is left
-  pub varing_over : length cells ≤ at → VarsRead vs (list xs) out k
+  -- nothing is left: they are as many as the set has
+  pub varing_over : length cells ≤ at → length seen ≡ VARIABLEWORDS → length vs ≤ VARIABLES → {many : ℕ} → many ≡ length (rising (64 * length seen) (holds seen)) →
+      VarsRead vs (list xs) out many
   unfolding others_in
-  varing_over l =
+  varing_over l w f {many} c =
       record {
         vars = h.us;
         are = h.whole ∙ ap (λ (z : Sexps). others_in vs z h.us) (walk_over h.walk l);
-        count = h.count;
+        count = c ∙ ap (λ (n : ℕ). length (rising (64 * n) (holds seen))) w ∙ ap (λ (s : Set). length (rising VARIABLES s)) h.seen_is
+            ∙ sym (listing_count h.listing VARIABLES f);
         cells_are = h.out_is;
       }
 

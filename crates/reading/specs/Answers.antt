@@ -105,9 +105,9 @@ pub record HypsRead (p : Fact → Bool) (S : State) (x : Sexp) (set : List ℕ) 
   pub are : (M : Made) → hyp_list p S x M ≡ ok hyps M
   pub set_is : holds set ≡ has hyps
 
-abbrev pub HypsAs : (Fact → Bool) → State → Sexp → List ℕ → List ℕ → Result (Unit {0}) Question → Type 0
-HypsAs p S x before set (Ok _) = HypsRead p S x set
-HypsAs p S x before set (Err q) = ((M : Made) → hyp_list p S x M ≡ refuse (number_of q) (detail_of q) M) × ((set ≡ before) × (detail_of q ≡ 0))
+abbrev pub HypsAs : (Fact → Bool) → State → Sexp → Result (List ℕ) Question → Type 0
+HypsAs p S x (Ok set) = HypsRead p S x set
+HypsAs p S x (Err q) = ((M : Made) → hyp_list p S x M ≡ refuse (number_of q) (detail_of q) M) × (detail_of q ≡ 0)
 
 -- Bindings -----------------------------------------------------------------------------------------------------------------------
 

@@ -3,3 +3,4 @@ pub mod Reading
 pub mod Bindings
 pub mod Walks
 pub mod Lists
+pub mod Parts

@@ -5,4 +5,5 @@ pub mod Answers
 pub mod Heads
 pub mod Laws
 pub mod Reader
+pub mod Lent
 pub mod Tested

@@ -4,13 +4,13 @@ ghost use Rattle.std.specs.Prelude.{◌≡◌, [], replicate};
 ghost use Rattle.rules.specs.Limits.{VARIABLES};
 ghost use Rattle.rules.specs.Reference.{binding, bindings};
 ghost use Rattle.terms.specs.Lent.{SameTables, made_of};
-ghost use Rattle.reading.specs.Reader.{names_of};
-ghost use Rattle.reading.specs.Given.{ReadsItem, ReadsItems};
+ghost use Rattle.reading.specs.Lent.{ReadsItemIn, ReadsItemsIn};
 ghost use Rattle.reading.specs.Answers.{PairAs, BindingsAs};
 
 use crate::reader::Reader;
 use cells::or_cleared;
 use questions::Question;
+use rules::VARIABLES;
 use sexp::items;
 use state::vars::var_sort;
 use terms::store::Store;
@@ -25,14 +25,11 @@ pub struct Pair {
 impl Reader<'_> {
     // The binding that the first item spells.
     fn binding(&self, store: &mut Store<'_>, cells: &[u32]) -> Result<Pair, Question>
-        requires { ReadsItem (names_of self.now) self.now.n store.old.index.now store.old.words.now store.old.mark cells.now }
+        requires { ReadsItemIn self.now store.old cells.now }
         ensures same_tables { SameTables store.old store.new }
-        ensures pair_as { (g : ReadsItem (names_of self.now) self.now.n store.old.index.now store.old.words.now store.old.mark cells.now) →
-            PairAs store.old store.new (binding g.S g.x (made_of store.old)) result }
+        ensures pair_as { (g : ReadsItemIn self.now store.old cells.now) → PairAs store.old store.new (binding g.S g.x (made_of store.old)) result }
     {
-        let Some(inner) = items::list(cells, 0) else {
-            return Err(Question::Binding);
-        };
+        let inner = items::list(cells, 0).ok_or(Question::Binding)?;
         if items::count(inner) != 2 {
             return Err(Question::Binding);
         }
@@ -47,12 +44,12 @@ impl Reader<'_> {
         &self,
         store: &mut Store<'_>,
         cells: &[u32],
-        map: &mut [u32],
+        map: &mut [u32; VARIABLES],
     ) -> Result<(), Question>
-        requires reads_items { ReadsItems (names_of self.now) self.now.n store.old.index.now store.old.words.now store.old.mark cells.now }
+        requires reads_items { ReadsItemsIn self.now store.old cells.now }
         requires map_value { map.old ≡ replicate VARIABLES 0 }
         ensures same_tables { SameTables store.old store.new }
-        ensures bindings_as { (g : ReadsItems (names_of self.now) self.now.n store.old.index.now store.old.words.now store.old.mark cells.now) →
+        ensures bindings_as { (g : ReadsItemsIn self.now store.old cells.now) →
             BindingsAs store.old store.new (bindings g.S g.xs [] (made_of store.old)) map.new map.new result }
     {
         for item in items::all(cells) {
@@ -65,17 +62,18 @@ impl Reader<'_> {
         Ok(())
     }
 
-    // The same; where they are refused, the map is zero again.
+    // The same; where they are refused, the map is zero again. It is lent: as an answer, of 2 KB, it is set to zero once more and copied, and the check of
+    // `mid` takes 3 % more instructions.
     pub fn bindings(
         &self,
         store: &mut Store<'_>,
         cells: &[u32],
-        map: &mut [u32],
+        map: &mut [u32; VARIABLES],
     ) -> Result<(), Question>
-        requires reads_items { ReadsItems (names_of self.now) self.now.n store.old.index.now store.old.words.now store.old.mark cells.now }
+        requires reads_items { ReadsItemsIn self.now store.old cells.now }
         requires map_value { map.old ≡ replicate VARIABLES 0 }
         ensures same_tables { SameTables store.old store.new }
-        ensures bindings_as { (g : ReadsItems (names_of self.now) self.now.n store.old.index.now store.old.words.now store.old.mark cells.now) →
+        ensures bindings_as { (g : ReadsItemsIn self.now store.old cells.now) →
             BindingsAs store.old store.new (bindings g.S g.xs [] (made_of store.old)) map.old map.new result }
     {
         let each = self.binding_each(store, cells, map);

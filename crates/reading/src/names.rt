@@ -3,10 +3,9 @@ ghost use Rattle.std.specs.Prelude.{◌≡◌, List};
 ghost use Rattle.rules.specs.Sexp.{Sexp, Sexps, cons};
 ghost use Rattle.rules.specs.State.{Var};
 ghost use Rattle.sexp.specs.Items.{Holds};
-ghost use Rattle.state.specs.Held.{VarsHeld};
-ghost use Rattle.state.specs.Rows.{SomeVars};
 ghost use Rattle.reading.specs.Items.{FirstItem, index_in, variable_in};
 ghost use Rattle.reading.specs.Earlier.{EarlierAs};
+ghost use Rattle.reading.specs.Lent.{SomeVarsIn, VarsHeldIn};
 
 use crate::reader::Reader;
 use questions::Question;
@@ -37,9 +36,8 @@ impl Reader<'_> {
 
     // The variable that the first item names.
     pub fn variable(&self, cells: &[u32]) -> Option<usize>
-        requires { FirstItem self.now.text.now cells.now × SomeVars self.now.goals.now self.now.text.now self.now.vars.now self.now.n.vars }
-        ensures { (vs : List Var) (x : Sexp) (ys : Sexps) → VarsHeld self.now.goals.now self.now.text.now self.now.vars.now self.now.n.vars vs →
-            Holds self.now.text.now cells.now (cons x ys) → result ≡ variable_in vs x }
+        requires { FirstItem self.now.text.now cells.now × SomeVarsIn self.now }
+        ensures { (vs : List Var) (x : Sexp) (ys : Sexps) → VarsHeldIn self.now vs → Holds self.now.text.now cells.now (cons x ys) → result ≡ variable_in vs x }
     {
         let name = items::head(self.text, cells)?;
         self.var_table().named(name)

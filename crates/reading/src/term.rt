@@ -13,10 +13,8 @@ ghost use Rattle.terms.specs.Table.{tree, tree_at, Node};
 ghost use Rattle.terms.specs.Lent.{GoodStore, SameTables, made_of, terms_made};
 ghost use Rattle.kernel.specs.Held.{SymbolsHeld};
 ghost use Rattle.kernel.specs.Readers.{KnownInput};
-ghost use Rattle.reading.specs.Reader.{names_of};
-ghost use Rattle.reading.specs.Given.{ReadsTerm, ReadsDefs, ReadsNames, ReadsItem, ReadsItems};
-ghost use Rattle.reading.specs.Answers.{ReadAs, TypedBy, TypedAs, ArgumentsAs};
-ghost use Rattle.reading.specs.Heads.{ReadsAtom, Opens, OpenedAs};
+ghost use Rattle.reading.specs.Lent.{ReadsTermIn, ReadsDefsIn, ReadsNamesIn, ReadsAtomIn, ReadsItemIn, ReadsItemsIn, OpensIn, TypedIn, OpenedIn};
+ghost use Rattle.reading.specs.Answers.{ReadAs, TypedAs, ArgumentsAs};
 
 use crate::lists::put_within;
 use crate::reader::Reader;
@@ -28,7 +26,7 @@ use sexp::items::Item;
 use sexp::{items, lex};
 use state::defs::def_named;
 use state::vars::var_sort;
-use terms::heads::{Head, head_of};
+use terms::heads::Head;
 use terms::store::{Store, Terms};
 
 // A term's number, and its sort.
@@ -68,8 +66,8 @@ fn put_argument(node: &mut [u32], k: usize, t: usize)
 // Whether symbol c, which takes `count` arguments, takes a term of that sort as argument k.
 fn takes(known: &SymbolTable<'_>, c: usize, count: usize, k: usize, sort: usize) -> bool
     requires { k < count → KnownInput known.now.inputs.now c k }
-    ensures { (T : Theory) (text symbols : List ℕ) (many : ℕ) → SymbolsHeld text symbols known.now.inputs.now many T.symbols → c < many → count ≡ length (inputs_of T c) →
-        result ≡ ltb k count && eqb sort (get_or (inputs_of T c) k 0) }
+    ensures { (T : Theory) (text symbols : List ℕ) (many : ℕ) → SymbolsHeld text symbols known.now.inputs.now many T.symbols → c < many →
+        count ≡ length (inputs_of T c) → result ≡ ltb k count && eqb sort (get_or (inputs_of T c) k 0) }
 {
     k < count && sort == known.input(c, k)
 }
@@ -77,11 +75,10 @@ fn takes(known: &SymbolTable<'_>, c: usize, count: usize, k: usize, sort: usize)
 impl Reader<'_> {
     // The sort of a term of the store; 0 for a judgment, the definition's own number for that: sorts are numbered from 1 on.
     pub fn sort_of(&self, terms: &Terms<'_>, id: usize) -> usize
-        requires { ReadsTerm self.now.symbols.now self.now.vars.now terms.now.index.now terms.now.words.now id }
-        ensures { (g : ReadsTerm self.now.symbols.now self.now.vars.now terms.now.index.now terms.now.words.now id) →
-            result ≡ sort_of g.S.theory g.S.vars (tree terms.now.index.now terms.now.words.now g.mark id) }
+        requires { ReadsTermIn self.now terms.now id }
+        ensures { (g : ReadsTermIn self.now terms.now id) → result ≡ sort_of g.S.theory g.S.vars (tree terms.now.index.now terms.now.words.now g.mark id) }
     {
-        match head_of(terms.node(id)[0]) {
+        match Head::from(terms.node(id)[0]) {
             // by hand: `output` asks that the theory has the symbol, which is not asked here
             Head::Symbol(c) => self.symbols[4 * c] as usize,
             Head::Variable(v) => var_sort(self.vars, v),
@@ -90,9 +87,8 @@ impl Reader<'_> {
 
     // The term that a marked atom abbreviates.
     fn abbreviation(&self, terms: &Terms<'_>, name: &[u8]) -> Result<Typed, Question>
-        requires { ReadsDefs self.now.text.now self.now.symbols.now self.now.vars.now self.now.defs.now self.now.n terms.now.index.now terms.now.words.now terms.now.mark }
-        ensures { (g : ReadsDefs self.now.text.now self.now.symbols.now self.now.vars.now self.now.defs.now self.now.n terms.now.index.now terms.now.words.now terms.now.mark) →
-            let t = terms.now in TypedBy t.index.now t.words.now t.index.now t.words.now t.mark t.mark g.S (found 22 (abbreviated g.S.defs name.now) (terms_made t)) result }
+        requires { ReadsDefsIn self.now terms.now }
+        ensures { (g : ReadsDefsIn self.now terms.now) → TypedIn terms.now g.S (found 22 (abbreviated g.S.defs name.now) (terms_made terms.now)) result }
     {
         let found = def_named(self.text, self.defs, self.n.defs, name);
         let term = found.ok_or(Question::Spelling)?;
@@ -102,10 +98,9 @@ impl Reader<'_> {
 
     // The variable of that name, or else the constructor without arguments.
     fn named(&self, store: &mut Store<'_>, name: &[u8]) -> Result<Typed, Question>
-        requires { ReadsNames self.now.theory.now self.now.goals.now self.now.text.now self.now.symbols.now self.now.vars.now self.now.n store.old.index.now store.old.words.now store.old.mark }
+        requires { ReadsNamesIn self.now store.old }
         ensures same_tables { SameTables store.old store.new }
-        ensures typed_as { (g : ReadsNames self.now.theory.now self.now.goals.now self.now.text.now self.now.symbols.now self.now.vars.now self.now.n store.old.index.now store.old.words.now store.old.mark) →
-            TypedAs store.old store.new g.S (named g.S name.now (made_of store.old)) result }
+        ensures typed_as { (g : ReadsNamesIn self.now store.old) → TypedAs store.old store.new g.S (named g.S name.now (made_of store.old)) result }
     {
         if let Some(v) = self.var_table().named(name) {
             let term = store.keep_var(v)?;
@@ -123,9 +118,9 @@ impl Reader<'_> {
 
     // The term that the atom at a place spells.
     fn atomic(&self, store: &mut Store<'_>, start: usize) -> Result<Typed, Question>
-        requires { ReadsAtom (names_of self.now) self.now.n store.old.index.now store.old.words.now store.old.mark start }
+        requires { ReadsAtomIn self.now store.old start }
         ensures same_tables { SameTables store.old store.new }
-        ensures typed_as { (g : ReadsAtom (names_of self.now) self.now.n store.old.index.now store.old.words.now store.old.mark start) →
+        ensures typed_as { (g : ReadsAtomIn self.now store.old start) →
             TypedAs store.old store.new g.S (term g.S (atom start (letters (drop start self.now.text.now))) (made_of store.old)) result }
     {
         let name = lex::atom(self.text, start);
@@ -138,10 +133,9 @@ impl Reader<'_> {
     // The term that the first item spells. An atom is wanted by its place too, so that with `items::list` the item would be looked at twice.
     #[cycle(arguments_compound_term)]
     pub fn term(&self, store: &mut Store<'_>, cells: &[u32]) -> Result<Typed, Question>
-        requires { ReadsItem (names_of self.now) self.now.n store.old.index.now store.old.words.now store.old.mark cells.now }
+        requires { ReadsItemIn self.now store.old cells.now }
         ensures same_tables { SameTables store.old store.new }
-        ensures typed_as { (g : ReadsItem (names_of self.now) self.now.n store.old.index.now store.old.words.now store.old.mark cells.now) →
-            TypedAs store.old store.new g.S (term g.S g.x (made_of store.old)) result }
+        ensures typed_as { (g : ReadsItemIn self.now store.old cells.now) → TypedAs store.old store.new g.S (term g.S g.x (made_of store.old)) result }
     {
         match items::item_at(cells, 0) {
             Item::Atom(start) => self.atomic(store, start),
@@ -151,9 +145,8 @@ impl Reader<'_> {
 
     // The constructor that the items of a list begin with; it has arguments.
     fn constructor_first(&self, cells: &[u32]) -> Result<usize, Question>
-        requires { Opens self.now.theory.now self.now.text.now self.now.symbols.now self.now.n.symbols cells.now }
-        ensures { (g : Opens self.now.theory.now self.now.text.now self.now.symbols.now self.now.n.symbols cells.now) →
-            OpenedAs self.now.text.now cells.now self.now.n.symbols g.S (compound g.S g.xs) result }
+        requires { OpensIn self.now cells.now }
+        ensures { (g : OpensIn self.now cells.now) → OpenedIn self.now cells.now g.S (compound g.S g.xs) result }
     {
         let name = items::head(self.text, cells).ok_or(Question::Spelling)?;
         let known = self.symbol_table();
@@ -166,9 +159,8 @@ impl Reader<'_> {
 
     // The predicate that the items of a list begin with.
     fn predicate_first(&self, cells: &[u32]) -> Result<usize, Question>
-        requires { Opens self.now.theory.now self.now.text.now self.now.symbols.now self.now.n.symbols cells.now }
-        ensures { (g : Opens self.now.theory.now self.now.text.now self.now.symbols.now self.now.n.symbols cells.now) →
-            OpenedAs self.now.text.now cells.now self.now.n.symbols g.S (judgment g.S (list g.xs)) result }
+        requires { OpensIn self.now cells.now }
+        ensures { (g : OpensIn self.now cells.now) → OpenedIn self.now cells.now g.S (judgment g.S (list g.xs)) result }
     {
         let name = items::head(self.text, cells).ok_or(Question::Spelling)?;
         self.symbol_table()
@@ -179,10 +171,9 @@ impl Reader<'_> {
     // The constructor over its arguments that the items of a list spell.
     #[cycle(arguments_compound_term)]
     fn compound(&self, store: &mut Store<'_>, cells: &[u32]) -> Result<Typed, Question>
-        requires { ReadsItems (names_of self.now) self.now.n store.old.index.now store.old.words.now store.old.mark cells.now }
+        requires { ReadsItemsIn self.now store.old cells.now }
         ensures same_tables { SameTables store.old store.new }
-        ensures typed_as { (g : ReadsItems (names_of self.now) self.now.n store.old.index.now store.old.words.now store.old.mark cells.now) →
-            TypedAs store.old store.new g.S (compound g.S g.xs (made_of store.old)) result }
+        ensures typed_as { (g : ReadsItemsIn self.now store.old cells.now) → TypedAs store.old store.new g.S (compound g.S g.xs (made_of store.old)) result }
     {
         let c = self.constructor_first(cells)?;
         // as long as the longest node: no heap, and the core stands on `std` alone, which has no vector without one
@@ -192,8 +183,7 @@ impl Reader<'_> {
     }
 
     // The terms that the items spell, as the arguments of symbol c. They must be as many as its inputs and each of its sort: then the node is that of c
-    // over them, and what is answered is how long it is. `k` is in the answer: with `enumerate` the items would be counted by
-    // a second walk, `items::count`.
+    // over them, and what is answered is how long it is.
     #[cycle(arguments_compound_term)]
     fn arguments(
         &self,
@@ -202,26 +192,24 @@ impl Reader<'_> {
         c: usize,
         node: &mut [u32],
     ) -> Result<usize, Question>
-        requires { ReadsItems (names_of self.now) self.now.n store.old.index.now store.old.words.now store.old.mark cells.now × (c < self.now.n.symbols) × (length node.old ≡ NODE) }
+        requires { ReadsItemsIn self.now store.old cells.now × (c < self.now.n.symbols) × (length node.old ≡ NODE) }
         ensures same_tables { SameTables store.old store.new }
-        ensures arguments_as { (g : ReadsItems (names_of self.now) self.now.n store.old.index.now store.old.words.now store.old.mark cells.now) →
+        ensures arguments_as { (g : ReadsItemsIn self.now store.old cells.now) →
             ArgumentsAs store.old store.new g.S c node.new (terms g.S g.xs (made_of store.old)) result }
     {
         let known = self.symbol_table();
         let count = known.arity(c);
         put_head(node, c);
-        let mut k = 0;
         let mut fits = true;
-        for item in items::all(cells) {
+        for (k, item) in items::all(cells).enumerate() {
             let typed = self.term(store, item)?;
             put_argument(node, k, typed.term);
             fits &= takes(&known, c, count, k, typed.sort);
-            k += 1;
         }
-        if !fits || k != count {
+        if !fits || items::count(cells) != count {
             return Err(Question::Sorting);
         }
-        Ok(k + 1)
+        Ok(count + 1)
     }
 
     // The term of that sort that the first item spells.
@@ -231,10 +219,9 @@ impl Reader<'_> {
         cells: &[u32],
         sort: usize,
     ) -> Result<usize, Question>
-        requires { ReadsItem (names_of self.now) self.now.n store.old.index.now store.old.words.now store.old.mark cells.now }
+        requires { ReadsItemIn self.now store.old cells.now }
         ensures same_tables { SameTables store.old store.new }
-        ensures read_as { (g : ReadsItem (names_of self.now) self.now.n store.old.index.now store.old.words.now store.old.mark cells.now) →
-            ReadAs store.old store.new (term_of g.S g.x sort (made_of store.old)) result }
+        ensures read_as { (g : ReadsItemIn self.now store.old cells.now) → ReadAs store.old store.new (term_of g.S g.x sort (made_of store.old)) result }
     {
         let typed = self.term(store, cells)?;
         if typed.sort != sort {
@@ -245,14 +232,11 @@ impl Reader<'_> {
 
     // The judgment that the first item spells.
     pub fn judgment(&self, store: &mut Store<'_>, cells: &[u32]) -> Result<usize, Question>
-        requires { ReadsItem (names_of self.now) self.now.n store.old.index.now store.old.words.now store.old.mark cells.now }
+        requires { ReadsItemIn self.now store.old cells.now }
         ensures same_tables { SameTables store.old store.new }
-        ensures read_as { (g : ReadsItem (names_of self.now) self.now.n store.old.index.now store.old.words.now store.old.mark cells.now) →
-            ReadAs store.old store.new (judgment g.S g.x (made_of store.old)) result }
+        ensures read_as { (g : ReadsItemIn self.now store.old cells.now) → ReadAs store.old store.new (judgment g.S g.x (made_of store.old)) result }
     {
-        let Some(inner) = items::list(cells, 0) else {
-            return Err(Question::Spelling);
-        };
+        let inner = items::list(cells, 0).ok_or(Question::Spelling)?;
         let p = self.predicate_first(inner)?;
         // an array, as in `compound`
         let mut node = [0u32; NODE];

@@ -9,7 +9,7 @@ use native.Mathlib.Numerals.{add-one}
 use lib.Dec.{eqb}
 use lib.ListN.{length, get_or, take, drop, drop_of_length-le}
 use lib.Seq.{drop-cons}
-use Rattle.rules.specs.Limits.{FACTWORDS, RULEWORDS}
+use Rattle.rules.specs.Limits.{FACTWORDS}
 use Rattle.rules.specs.Find.{Set, union, has}
 use Rattle.rules.specs.Laws.Theory.{all_at}
 use Rattle.rules.specs.Laws.Set.{union_empty}
@@ -55,8 +55,8 @@ module _ {facts footings lists : List ℕ} {i : ℕ} (g : RecallsFact facts foot
   abbrev row : FactRow (records facts footings lists) g.n g.trees g.S i (fact_of g.S i)
   row = fact_row_lem g.recorded i g.there
 
-  pub join_asks : (footing : List ℕ) → length footing ≡ RULEWORDS → FactAt facts i × (length footing ≡ 4)
-  join_asks footing e = (fact_asks g.recorded g.there, e)
+  pub join_asks : FactAt facts i
+  join_asks = fact_asks g.recorded g.there
 
   pub footing_joins : (before after : List ℕ) → holds after ≡ union (holds before) (holds (take 4 (drop (4 * i) footings))) →
       holds after ≡ union (holds before) (has (fact_of g.S i).footing)

@@ -16,7 +16,6 @@ use Rattle.terms.specs.declared.store.Terms.{Terms}
 use Rattle.terms.specs.declared.store.Store.{Store}
 use Rattle.terms.specs.Table.{made}
 use Rattle.terms.specs.Sets.{holds}
-use Rattle.terms.specs.Collect.{Seen}
 use Rattle.state.specs.Held.{Names, RuleLists, rule_lists}
 use Rattle.state.specs.Rows.{cell}
 use Rattle.state.specs.declared.board.Given.{Given}
@@ -25,7 +24,7 @@ use Rattle.reading.specs.Reader.{names_of, reader_of}
 use Rattle.referring.specs.declared.source.Facts.{Facts}
 use Rattle.referring.specs.declared.source.Source.{Source}
 use Rattle.referring.specs.declared.references.Referred.{Referred}
-use Rattle.referring.specs.Recall.{Recalls, BareItem, RefersItem, RefersItems, ReadableAll}
+use Rattle.referring.specs.Recall.{Recalls, RecallsFact, BareItem, RefersItem, RefersItems, ReadableAll}
 use Rattle.referring.specs.Referral.{ReferredBy, Gathered}
 use Rattle.referring.specs.Derived.{FactForm, RuleForm, ReadableCells}
 
@@ -85,18 +84,21 @@ ConcludesAs f i t (Err q) = ((q ≡ Earlier) × (f.n.facts ≤ i)) ⊎ ((q ≡ C
 
 -- Facts and terms --------------------------------------------------------------------------------------------------------------------
 
+abbrev pub RecallsFactIn : Facts → ℕ → Type 0
+RecallsFactIn f i = RecallsFact (fact_rows f.records.now) (fact_feet f.records.now) f.lists.now i
+
+-- whatever the footings are
+abbrev pub RecallsEntries : Facts → ℕ → Type 0
+RecallsEntries f i = (footings : List ℕ) × RecallsFact (fact_rows f.records.now) footings f.lists.now i
+
 abbrev pub RecallsIn : Facts → Terms → Type 0
 RecallsIn f t = Recalls (fact_rows f.records.now) f.lists.now f.n t.index.now t.words.now t.mark
 
-abbrev pub ReadableIn : Terms → List ℕ → Type 0
-ReadableIn t ids = ReadableAll t.index.now t.words.now t.mark ids
+abbrev pub ReadableAllIn : Terms → List ℕ → Type 0
+ReadableAllIn t ids = ReadableAll t.index.now t.words.now t.mark ids
 
 abbrev pub ReadableCellsIn : Terms → List ℕ → Type 0
 ReadableCellsIn t cells = ReadableCells t.index.now t.words.now t.mark cells
-
--- what was visited before is right for the set
-abbrev pub SeenIn : Terms → List ℕ → List ℕ → Type 0
-SeenIn t seen set = Seen t.index.now t.words.now t.mark (holds seen) (holds set)
 
 abbrev pub GatheredIn : Terms → Set → List ℕ → List ℕ → List ℕ → Type 0
 GatheredIn t more before seen set = Gathered t.index.now t.words.now t.mark more (holds before) (holds seen) (holds set)

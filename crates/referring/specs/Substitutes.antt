@@ -19,6 +19,9 @@ pub record Replaceables (I W : List ℕ) (m : Mark) (map memo ids out : List ℕ
   pub there : Below m.terms ids
   pub long : length out ≡ length ids
 
+abbrev pub ReplaceablesIn : Store → List ℕ → List ℕ → List ℕ → List ℕ → Type 0
+ReplaceablesIn s map memo ids out = Replaceables s.index.now s.words.now s.mark map memo ids out
+
 -- K answers terms, whose numbers are in the cells
 pub record Replaced (I W J X : List ℕ) (old : Mark) (K : Out Made Trees) (out : List ℕ) (new : Mark) : Type 0 where
   pub went : Went I W J X old K (args_of (made J X new) out) new

@@ -1,14 +1,12 @@
 // What a fact concludes, and its entries in the lists as they stand there.
 ghost use Rattle.state.specs.Records.{fact_rows};
-ghost use Rattle.std.specs.Prelude.{◌≡◌, List, ℕ, ◌*◌, ◌≤◌, length};
+ghost use Rattle.std.specs.Prelude.{◌≡◌, ◌*◌, ◌≤◌, length};
 ghost use Rattle.rules.specs.Limits.{FACTS};
 ghost use Rattle.state.specs.Rows.{hyps_span, premises_span, general_span};
 ghost use Rattle.state.specs.Entries.{part};
-ghost use Rattle.referring.specs.Recall.{RecallsFact};
-ghost use Rattle.referring.specs.Sources.{ConcludesAs};
+ghost use Rattle.referring.specs.Sources.{ConcludesAs, RecallsEntries};
 
 use crate::source::Facts;
-use cells::Span;
 use questions::Question;
 use state::recorded::{general, hyps, is_fact, judgment, premises};
 
@@ -30,28 +28,25 @@ impl<'a> Facts<'a> {
     // The hypotheses of fact i. These are three methods, as each names the field of the row that it reads; one with the reader handed in would have to carry
     // what that promises.
     pub fn hyps(&self, i: usize) -> &'a [u32]
-        requires { (footings : List ℕ) × RecallsFact (fact_rows self.now.records.now) footings self.now.lists.now i }
+        requires { RecallsEntries self.now i }
         ensures { result.now ≡ part self.now.lists.now (hyps_span (fact_rows self.now.records.now) i) }
     {
-        let Span { from, end } = hyps(self.records, i);
-        &self.lists[from..end]
+        hyps(self.records, i).of(self.lists)
     }
 
     // Its premises.
     pub fn premises(&self, i: usize) -> &'a [u32]
-        requires { (footings : List ℕ) × RecallsFact (fact_rows self.now.records.now) footings self.now.lists.now i }
+        requires { RecallsEntries self.now i }
         ensures { result.now ≡ part self.now.lists.now (premises_span (fact_rows self.now.records.now) i) }
     {
-        let Span { from, end } = premises(self.records, i);
-        &self.lists[from..end]
+        premises(self.records, i).of(self.lists)
     }
 
     // Its generalised variables.
     pub fn general(&self, i: usize) -> &'a [u32]
-        requires { (footings : List ℕ) × RecallsFact (fact_rows self.now.records.now) footings self.now.lists.now i }
+        requires { RecallsEntries self.now i }
         ensures { result.now ≡ part self.now.lists.now (general_span (fact_rows self.now.records.now) i) }
     {
-        let Span { from, end } = general(self.records, i);
-        &self.lists[from..end]
+        general(self.records, i).of(self.lists)
     }
 }

@@ -10,14 +10,15 @@ ghost use Rattle.rules.specs.Tree.{variables, variables_of};
 ghost use Rattle.rules.specs.Store.{Made};
 ghost use Rattle.rules.specs.State.{mentioned, free, hyp_vars};
 ghost use Rattle.rules.specs.Reference.{scoped};
-ghost use Rattle.terms.specs.Table.{tree, args_of};
-ghost use Rattle.terms.specs.Lent.{terms_made};
+ghost use Rattle.terms.specs.Table.{args_of};
+ghost use Rattle.terms.specs.Lent.{terms_made, tree_made};
 ghost use Rattle.terms.specs.Patterns.{cells_of};
+ghost use Rattle.terms.specs.Collect.{SeenIn};
 ghost use Rattle.terms.specs.Sets.{holds, counted_from_1};
 ghost use Rattle.state.specs.Members.{Under};
 ghost use Rattle.referring.specs.Recall.{fact_of};
 ghost use Rattle.referring.specs.Derived.{cell_vars};
-ghost use Rattle.referring.specs.Sources.{RecallsIn, ReadableIn, ReadableCellsIn, SeenIn, GatheredIn, ScopedBy};
+ghost use Rattle.referring.specs.Sources.{RecallsIn, ReadableAllIn, ReadableCellsIn, GatheredIn, ScopedBy};
 
 use crate::references::insert_all;
 use crate::source::Facts;
@@ -36,7 +37,7 @@ pub fn visit_all(
     seen: &mut [u64; TERMWORDS],
     set: &mut [u64; VARIABLEWORDS],
 )
-    requires readable_all { ReadableIn terms.now ids.now }
+    requires readable_all { ReadableAllIn terms.now ids.now }
     requires seen { SeenIn terms.now seen.old set.old }
     ensures { GatheredIn terms.now (variables_of (args_of (terms_made terms.now) ids.now)) set.old seen.new set.new }
 {
@@ -97,7 +98,8 @@ impl Facts<'_> {
 
     // The variables that are free in hypotheses join the set, one hypothesis after the other. There is no heap for a list of these: it is written into an
     // array, with its count. An iterator over members is no plainer: it would be a struct with a `next` and a promise of its own, for this walk alone, since
-    // those who write members out keep the list, and the programs ask each number. A chain that filters 0..FACTS would ask for FACTS numbers where a few words tell.
+    // those who write members out keep the list, and the programs ask each number. A chain that filters 0..FACTS would ask for FACTS numbers where a few words
+    // tell.
     fn join_hyps(
         &self,
         terms: &Terms<'_>,
@@ -145,8 +147,8 @@ impl Facts<'_> {
         hyps: &[u64; FACTWORDS],
     ) -> Option<usize>
         requires recalls { RecallsIn self.now terms.now × Under self.now.n.facts (holds hyps.now) × (conclusion < terms.now.mark.terms) }
-        ensures { (g : RecallsIn self.now terms.now) → let t = terms.now in
-            counted_from_1 result ≡ least (length g.S.vars) (minus (holds used.now) (union (variables (tree t.index.now t.words.now t.mark conclusion)) (hyp_vars g.S.facts (rising (length g.S.facts) (holds hyps.now))))) }
+        ensures { (g : RecallsIn self.now terms.now) → counted_from_1 result ≡ least (length g.S.vars) (minus (holds used.now)
+            (union (variables (tree_made terms.now conclusion)) (hyp_vars g.S.facts (rising (length g.S.facts) (holds hyps.now))))) }
     {
         let mut seen = [0u64; TERMWORDS];
         let mut inside = [0u64; VARIABLEWORDS];
@@ -165,8 +167,8 @@ impl Facts<'_> {
         hyps: &[u64; FACTWORDS],
     ) -> Result<(), Question>
         requires recalls { RecallsIn self.now terms.now × Under self.now.n.facts (holds hyps.now) × (conclusion < terms.now.mark.terms) }
-        ensures { (g : RecallsIn self.now terms.now) (M : Made) → let t = terms.now in
-            ScopedBy (scoped g.S (holds used.now) (tree t.index.now t.words.now t.mark conclusion) (rising (length g.S.facts) (holds hyps.now)) M) M result }
+        ensures { (g : RecallsIn self.now terms.now) (M : Made) →
+            ScopedBy (scoped g.S (holds used.now) (tree_made terms.now conclusion) (rising (length g.S.facts) (holds hyps.now)) M) M result }
     {
         match self.outside(terms, used, conclusion, hyps) {
             None => Ok(()),
@@ -179,7 +181,7 @@ impl Facts<'_> {
 // options: one over an iterator of options would have to promise what each item gives.
 fn visit_one(
     terms: &Terms<'_>,
-    term: Option<usize>,
+    term: Option<u32>,
     seen: &mut [u64; TERMWORDS],
     set: &mut [u64; VARIABLEWORDS],
 )
@@ -188,7 +190,7 @@ fn visit_one(
     ensures { GatheredIn terms.now (cell_vars (terms_made terms.now) (counted_from_1 term ∷ [])) set.old seen.new set.new }
 {
     if let Some(id) = term {
-        visit(terms, id, seen, set);
+        visit(terms, id as usize, seen, set);
     }
 }
 
@@ -204,7 +206,7 @@ pub fn visit_cells(
     ensures { GatheredIn terms.now (cell_vars (terms_made terms.now) cells.now) set.old seen.new set.new }
 {
     for cell in cells {
-        visit_one(terms, (*cell as usize).checked_sub(1), seen, set);
+        visit_one(terms, cell.checked_sub(1), seen, set);
     }
 }
 

@@ -4,7 +4,7 @@ ghost use Rattle.rules.specs.Store.{substitutes};
 ghost use Rattle.terms.specs.Table.{args_of};
 ghost use Rattle.terms.specs.Lent.{SameTables, made_of};
 ghost use Rattle.terms.specs.Subst.{replacement};
-ghost use Rattle.referring.specs.Substitutes.{Replaceables, ReplacedAs};
+ghost use Rattle.referring.specs.Substitutes.{ReplaceablesIn, ReplacedAs};
 
 use questions::Row;
 use terms::store::Store;
@@ -18,9 +18,10 @@ pub fn substitute_all(
     ids: &[u32],
     out: &mut [u32],
 ) -> Result<(), Row>
-    requires { let s = store.old in Replaceables s.index.now s.words.now s.mark map.now memo.old ids.now out.old }
+    requires { ReplaceablesIn store.old map.now memo.old ids.now out.old }
     ensures same_tables { SameTables store.old store.new }
-    ensures replaced_as { let M = made_of store.old in ReplacedAs store.old store.new (substitutes (replacement M map.now) (args_of M ids.now) M) out.new result }
+    ensures replaced_as { let M = made_of store.old in
+        ReplacedAs store.old store.new (substitutes (replacement M map.now) (args_of M ids.now) M) out.new result }
     ensures memo_unchanged { memo.new ≡ memo.old }
 {
     // by its place: behind a zip with `iter_mut` nothing is known of what was written

@@ -1,10 +1,10 @@
 // What a fact rests on, and the answer of all forms of facts.
-ghost use Rattle.state.specs.Records.{fact_rows, fact_feet};
 ghost use Rattle.std.specs.Prelude.{◌≡◌};
 ghost use Rattle.rules.specs.Find.{union, has};
 ghost use Rattle.terms.specs.Sets.{holds};
-ghost use Rattle.referring.specs.Recall.{RecallsFact, fact_of};
+ghost use Rattle.referring.specs.Recall.{fact_of};
 ghost use Rattle.referring.specs.Referral.{rests_on};
+ghost use Rattle.referring.specs.Sources.{RecallsFactIn};
 
 use crate::references::{Referred, insert_all};
 use crate::source::Facts;
@@ -35,8 +35,8 @@ impl Support {
 
     // What a reference brings: the hypotheses that it rests on, and its fact's footing. This is the one place where footings join.
     pub fn join(&mut self, facts: &Facts<'_>, referred: &Referred)
-        requires { RecallsFact (fact_rows facts.now.records.now) (fact_feet facts.now.records.now) facts.now.lists.now referred.now.fact }
-        ensures { (g : RecallsFact (fact_rows facts.now.records.now) (fact_feet facts.now.records.now) facts.now.lists.now referred.now.fact) →
+        requires { RecallsFactIn facts.now referred.now.fact }
+        ensures { (g : RecallsFactIn facts.now referred.now.fact) →
             (holds self.new.hyps ≡ union (holds self.old.hyps) (has (rests_on g.S referred.now.fact referred.now.bare)))
             × (holds self.new.footing ≡ union (holds self.old.footing) (has (fact_of g.S referred.now.fact).footing)) }
     {

@@ -10,13 +10,13 @@ const PART: u64 = 131072;
 // Bytes that a line of numbers has at most: seven of nine digits take less.
 const LINE: u64 = 80;
 
-// Its parts. The facts and footings that are recorded stand one behind the other.
+// Its parts. The facts and footings that are recorded stand one behind the other; none where whatever they are will do.
 #[derive(Drop)]
 pub struct Case {
     pub name: Vec<u8>,
     pub files: TextFiles,
     pub answer: Vec<u8>,
-    pub recorded: Vec<u8>,
+    pub recorded: Option<Vec<u8>>,
 }
 
 // A line of numbers in decimal, a space between two of them. One that is missing, or is none, counts as 0.
@@ -35,6 +35,16 @@ fn read_part<R: BufRead>(alloc: Global, input: &mut R, many: u64) -> io::Result<
     let mut part = Vec::new(alloc);
     input.by_ref().take(many.min(PART)).read_to_end(&mut part)?;
     Ok(part)
+}
+
+// What is recorded. A case that does not store it has `-` for the facts and `-` for the footings.
+fn read_recorded<R: BufRead>(
+    alloc: Global,
+    input: &mut R,
+    many: u64,
+) -> io::Result<Option<Vec<u8>>> {
+    let recorded = read_part(alloc, input, many)?;
+    Ok(Some(recorded).filter(|recorded| !matches!(recorded.as_slice(), [b'-', _])))
 }
 
 // The header is its length on a line, and so many bytes.
@@ -60,7 +70,7 @@ pub fn read_case<R: BufRead>(alloc: Global, input: &mut R) -> io::Result<Option<
             proof: read_part(alloc, input, proof)?,
         },
         answer: read_part(alloc, input, answer)?,
-        recorded: read_part(alloc, input, facts.saturating_add(footings))?,
+        recorded: read_recorded(alloc, input, facts.saturating_add(footings))?,
     };
     read_part(alloc, input, 1)?;
     Ok(Some(case))

@@ -27,11 +27,6 @@ impl Write for Expected<'_> {
     }
 }
 
-// Whether facts and footings are compared: `-` stands for whatever they are.
-fn is_stored(recorded: &[u8]) -> bool {
-    !matches!(recorded, [b'-', _])
-}
-
 // Whether what is written begins with all that is wanted.
 fn writes<'a, F: FnOnce(&mut Expected<'a>) -> io::Result<()>>(
     wanted: &'a [u8],
@@ -48,11 +43,11 @@ fn writes<'a, F: FnOnce(&mut Expected<'a>) -> io::Result<()>>(
 pub fn is_as_expected(alloc: Global, case: &Case) -> io::Result<bool> {
     let mut wanted = Vec::from_slice(alloc, &case.answer)?;
     wanted.push(b'\n')?;
-    if !is_stored(&case.recorded) {
+    let Some(recorded) = &case.recorded else {
         let line = Line(answer(&case.files.texts()));
         return writes(&wanted, |out| writeln!(out, "{line}"));
-    }
-    wanted.extend_from_slice(&case.recorded)?;
+    };
+    wanted.extend_from_slice(recorded)?;
     wanted.extend_from_slice(b"(missing [")?;
     writes(&wanted, |out| tell(alloc, &case.files.texts(), out))
 }

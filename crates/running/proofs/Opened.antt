@@ -18,7 +18,7 @@ use Rattle.state.specs.Rows.{cell}
 use Rattle.state.specs.RowCells.{no_goal, goal_row}
 use Rattle.state.specs.Numbered.{Numbered, numbered_at}
 use Rattle.state.specs.GoalLaws.{goals_long, goal_at}
-use Rattle.running.specs.Finished.{OpenRowsIn, OpenRowAt, row_open}
+use Rattle.running.specs.Finished.{OpenRows, OpenRowAt, row_open}
 
 -- numbers from a on that say which goals are open
 numbers_open : (test : ℕ → Bool) (gs : List Goal) (a : ℕ) → ((k : ℕ) → k < length gs → test (a + k) ≡ is_open (get_or gs k no_goal).judgment) →
@@ -33,7 +33,7 @@ numbers_open test (g ∷ gs) a h = go (is_open g.judgment) (ap test (omega arith
     go true e i = rw e (ap suc i)
     go false e i = rw e i
 
-module _ {rows : List ℕ} (t : Terms) {count : ℕ} (g : OpenRowsIn rows t count) where
+module _ {rows : List ℕ} (t : Terms) {count : ℕ} (g : OpenRows rows t.index.now t.words.now t.mark count) where
   numbered : (k : ℕ) → k < count → Numbered (made t.index.now t.words.now t.mark) (get_or g.gs k no_goal).judgment (cell 6 rows k 2)
   unfolding goal_row name_cells
   numbered k l = numbered_at (cell 6 rows k 2) (all_at g.gs k no_goal g.there (omega (arith, g.held.many))) (goal_at g.held k 2 l (omega arith))

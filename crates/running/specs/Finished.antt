@@ -15,12 +15,15 @@ use Rattle.questions.specs.Numbers.{number_of}
 use Rattle.kernel.specs.Parsed.{TheoryLists}
 use Rattle.terms.specs.declared.store.Mark.{Mark}
 use Rattle.terms.specs.declared.store.Terms.{Terms}
+use Rattle.terms.specs.declared.store.Store.{Store}
 use Rattle.terms.specs.Table.{made, tree, Good}
 use Rattle.terms.specs.Lent.{GoodTerms}
 use Rattle.state.specs.Rows.{cell}
 use Rattle.state.specs.declared.sizes.Sizes.{Sizes}
 use Rattle.state.specs.Held.{GoalsHeld}
-use Rattle.state.specs.Stands.{Board}
+use Rattle.state.specs.declared.board.Board.{Board as Lent}
+use Rattle.state.specs.declared.goals.GoalTable.{GoalTable}
+use Rattle.state.specs.Stands.{Board, tables_of}
 use Rattle.counts.specs.Counted.{counts_of}
 use Rattle.running.specs.declared.finish.Report.{Report}
 use Rattle.running.specs.declared.refusal.Refusal.{Refusal}
@@ -40,6 +43,9 @@ pub record GoalRows (rows : List ℕ) (count : ℕ) : Type 0 where
   pub trees : Made
   pub held : GoalsHeld text rows count trees gs
 
+abbrev pub GoalRowsIn : GoalTable → Type 0
+GoalRowsIn t = GoalRows t.rows.now t.count
+
 -- and the store that has their judgments
 pub record OpenRows (rows index words : List ℕ) (m : Mark) (count : ℕ) : Type 0 where
   pub gs : List Goal
@@ -48,8 +54,8 @@ pub record OpenRows (rows index words : List ℕ) (m : Mark) (count : ℕ) : Typ
   pub held : GoalsHeld text rows count (made index words m) gs
   pub there : All (λ g. In g.judgment (made index words m)) gs
 
-abbrev pub OpenRowsIn : List ℕ → Terms → ℕ → Type 0
-OpenRowsIn rows t count = OpenRows rows t.index.now t.words.now t.mark count
+abbrev pub OpenRowsIn : GoalTable → Terms → Type 0
+OpenRowsIn goals t = OpenRows goals.rows.now t.index.now t.words.now t.mark goals.count
 
 -- row k of them, and whether its judgment has a variable
 abbrev pub OpenRowAt : List ℕ → Terms → ℕ → Type 0
@@ -96,6 +102,9 @@ pub record FinishGiven (r : Result Proved Stopped) (B : Board) (n : Sizes) (m : 
   pub S : State
   pub over : Over theory goals proof T B n m (forms_of r) S
   pub counted : CountedAs r S
+
+abbrev pub FinishGivenIn : Result Proved Stopped → Lent → Store → Type 0
+FinishGivenIn r b s = FinishGiven r (tables_of b s) b.n s.mark
 
 -- r is the answer; the list afterwards
 pub record Finishes (theory goals proof : List ℕ) (r : Result Report Refusal) (list : List ℕ) : Type 0 where

@@ -5,9 +5,8 @@ ghost use Rattle.rules.specs.Check.{count_open};
 ghost use Rattle.rules.specs.TheoryTables.{filled};
 ghost use Rattle.terms.specs.Table.{settled};
 ghost use Rattle.terms.specs.Lent.{SameTables};
-ghost use Rattle.state.specs.Stands.{tables_of};
 ghost use Rattle.running.specs.declared.refusal.Refusal.TheVariants.{Stopped as stopped_at};
-ghost use Rattle.running.specs.Finished.{unproved, GoalRows, OpenRowsIn, OpenRowAt, row_open, FinishGiven, Finishes, ListedFor};
+ghost use Rattle.running.specs.Finished.{unproved, GoalRowsIn, OpenRowsIn, OpenRowAt, row_open, FinishGivenIn, Finishes, ListedFor};
 
 use crate::refusal::Refusal;
 use crate::stopped::{Proved, Stopped};
@@ -15,7 +14,7 @@ use cells::clear;
 use counts::Counts;
 use questions::{Question, Text};
 use state::board::Board;
-use state::goals::{goal_judgment, is_taken};
+use state::goals::{GoalTable, goal_judgment, is_taken};
 use terms::store::{Store, Terms};
 
 // Facts; goals, those with variables; what the forms of the proof count.
@@ -28,19 +27,21 @@ pub struct Report {
 }
 
 // The goals without a result.
-fn count_missing(rows: &[u32], count: usize) -> usize
-    requires { GoalRows rows.now count }
-    ensures { (g : GoalRows rows.now count) → result ≡ length (unproved g.gs) }
+fn count_missing(goals: &GoalTable<'_>) -> usize
+    requires { GoalRowsIn goals.now }
+    ensures { (g : GoalRowsIn goals.now) → result ≡ length (unproved g.gs) }
 {
-    (0..count).filter(|k| !is_taken(rows, *k)).count()
+    let rows = goals.rows;
+    (0..goals.count).filter(|k| !is_taken(rows, *k)).count()
 }
 
 // They come into the list, numbered from 1.
-fn list_missing(rows: &[u32], count: usize, missing: &mut [u32])
-    requires { GoalRows rows.now count × (missing.old ≡ replicate GOALS 0) }
-    ensures { (g : GoalRows rows.now count) → missing.new ≡ filled GOALS (unproved g.gs) }
+fn list_missing(goals: &GoalTable<'_>, missing: &mut [u32])
+    requires { GoalRowsIn goals.now × (missing.old ≡ replicate GOALS 0) }
+    ensures { (g : GoalRowsIn goals.now) → missing.new ≡ filled GOALS (unproved g.gs) }
 {
-    for (entry, k) in (0..count).filter(|k| !is_taken(rows, *k)).enumerate() {
+    let rows = goals.rows;
+    for (entry, k) in (0..goals.count).filter(|k| !is_taken(rows, *k)).enumerate() {
         missing[entry] = (k + 1) as u32;
     }
 }
@@ -54,21 +55,24 @@ fn is_goal_open(rows: &[u32], terms: &Terms<'_>, k: usize) -> bool
 }
 
 // The goals whose judgment has a variable.
-fn count_open(rows: &[u32], terms: &Terms<'_>, count: usize) -> usize
-    requires { OpenRowsIn rows.now terms.now count }
-    ensures { (g : OpenRowsIn rows.now terms.now count) → result ≡ count_open g.gs }
+fn count_open(goals: &GoalTable<'_>, terms: &Terms<'_>) -> usize
+    requires { OpenRowsIn goals.now terms.now }
+    ensures { (g : OpenRowsIn goals.now terms.now) → result ≡ count_open g.gs }
 {
-    (0..count).filter(|k| is_goal_open(rows, terms, *k)).count()
+    let rows = goals.rows;
+    (0..goals.count)
+        .filter(|k| is_goal_open(rows, terms, *k))
+        .count()
 }
 
 // The refusal where the check has stopped. The list belongs to 53, whoever asks it.
-fn carry(stopped: Stopped, rows: &[u32], count: usize, missing: &mut [u32]) -> Refusal
-    requires { GoalRows rows.now count × (missing.old ≡ replicate GOALS 0) }
+fn carry(stopped: Stopped, goals: &GoalTable<'_>, missing: &mut [u32]) -> Refusal
+    requires { GoalRowsIn goals.now × (missing.old ≡ replicate GOALS 0) }
     ensures refusal { result ≡ stopped_at stopped }
-    ensures list { (g : GoalRows rows.now count) → ListedFor stopped.refused.question (unproved g.gs) missing.new }
+    ensures list { (g : GoalRowsIn goals.now) → ListedFor stopped.refused.question (unproved g.gs) missing.new }
 {
     if let Question::MissingResults(_) = stopped.refused.question {
-        list_missing(rows, count, missing);
+        list_missing(goals, missing);
     }
     Refusal::Stopped(stopped)
 }
@@ -80,31 +84,32 @@ pub fn finish(
     store: &mut Store<'_>,
     missing: &mut [u32],
 ) -> Result<Report, Refusal>
-    requires { FinishGiven outcome (tables_of board.now store.old) board.now.n store.old.mark × (length missing.old ≡ GOALS) }
+    requires { FinishGivenIn outcome board.now store.old × (length missing.old ≡ GOALS) }
     ensures same_tables { SameTables store.old store.new }
-    ensures finishes { (g : FinishGiven outcome (tables_of board.now store.old) board.now.n store.old.mark) →
+    ensures finishes { (g : FinishGivenIn outcome board.now store.old) →
         Finishes g.theory g.goals g.proof result missing.new }
     ensures index_after { store.new.index.now ≡ settled store.old.index.now }
     ensures words_after { store.new.words.now ≡ store.old.words.now }
     ensures mark_after { store.new.mark ≡ store.old.mark }
 {
-    let n = board.n;
-    let open_goals = count_open(board.rows, &store.terms(), n.goals);
+    let goals = board.goal_table();
+    let open_goals = count_open(&goals, &store.terms());
     store.settle();
     clear(missing);
+    // no `map_err`: it promises what its closure answers, and not what that leaves in the list
     let proved = match outcome {
         Ok(proved) => proved,
-        Err(stopped) => return Err(carry(stopped, board.rows, n.goals, missing)),
+        Err(stopped) => return Err(carry(stopped, &goals, missing)),
     };
-    let many = count_missing(board.rows, n.goals);
+    let many = count_missing(&goals);
     if many != 0 {
-        list_missing(board.rows, n.goals, missing);
+        list_missing(&goals, missing);
         let refused = Question::MissingResults(many).behind(proved.forms);
         return Err(Refusal::Stopped(Stopped::left_in(Text::Proof, refused)));
     }
     Ok(Report {
-        steps: n.facts,
-        goals: n.goals,
+        steps: board.n.facts,
+        goals: goals.count,
         open_goals,
         counts: proved.counts,
     })

@@ -1,5 +1,6 @@
 // Why a check is refused, by name, and the four numbers that documents and programs in other languages read.
 ghost use Rattle.std.specs.Prelude.{◌≡◌};
+ghost use Rattle.questions.specs.Numbers.{number_of, detail_of};
 ghost use Rattle.running.specs.Refusals.{refusal_of};
 
 use crate::stopped::Stopped;
@@ -13,14 +14,21 @@ pub enum Refusal {
 }
 
 impl Refusal {
+    // The question.
+    fn question(self) -> Question
+        ensures { (number_of result ≡ (refusal_of self).number) × (detail_of result ≡ (refusal_of self).detail) }
+    {
+        match self {
+            Refusal::Tables => Question::Tables,
+            Refusal::Stopped(stopped) => stopped.refused.question,
+        }
+    }
+
     // The question's number.
     pub fn number(self) -> usize
         ensures { result ≡ (refusal_of self).number }
     {
-        match self {
-            Refusal::Tables => Question::Tables.number(),
-            Refusal::Stopped(stopped) => stopped.refused.question.number(),
-        }
+        self.question().number()
     }
 
     // The number of the text; 0 for none.
@@ -47,9 +55,6 @@ impl Refusal {
     pub fn detail(self) -> usize
         ensures { result ≡ (refusal_of self).detail }
     {
-        match self {
-            Refusal::Tables => Question::Tables.detail(),
-            Refusal::Stopped(stopped) => stopped.refused.question.detail(),
-        }
+        self.question().detail()
     }
 }

@@ -20,8 +20,7 @@ ghost use Rattle.schematic.specs.Ran.{Kept, RanIn, Ran, Whole, Filled, Called};
 
 use advancing::advance::{Scratch, next_form};
 use beginning::begin::{begin, given_of};
-use beginning::lengths;
-use beginning::tables::fits;
+use beginning::lengths::{self, Lengths};
 use counts::Counts;
 use facts::Fact;
 use kernel::tables::{Counts as Held, Tables};
@@ -106,7 +105,10 @@ fn check_exact(
 }
 
 // The same in tables of the theory of their named lengths, and others that may be longer. These stand one by one: a struct of lent tables was tried, and the
-// check loses what becomes of parts that another struct is made of.
+// check loses what becomes of parts that another struct is made of. They are cut by `split_at_mut`: a range (`&mut a[..5]`) was tried on a struct of two parts,
+// and of a part that goes into a struct the check knows its length afterwards, and not what it holds. `missing` goes into none, and is cut as they are.
+// `first_chunk_mut`, by which test and cut are one step, was tried here and in `check_fit`: `check` is proved from it, and neither of these two is. Of the cut
+// tables a search does not find that they were long enough (`WorkingFits`, `TheoryFits`), nor, of a table too short behind the first, that all are as they were.
 fn check_long(
     texts: &Texts<'_>,
     tables: &mut Tables<'_>,
@@ -159,7 +161,7 @@ fn check_long(
 }
 
 // The same in tables that are all long enough. They stand one by one: a struct of lent tables was tried, and the check loses what becomes of parts that
-// another struct is made of. So the texts, too, are a struct already, and not made here.
+// another struct is made of. So the texts, too, are a struct already, and not made here. Cut as in `check_long`.
 fn check_fit(
     texts: &Texts<'_>,
     sorts: &mut [u32],
@@ -213,7 +215,9 @@ fn check_fit(
 }
 
 // The whole check. The three texts; tables of the theory; variables, the store, abbreviations, goals; facts; entries of lists; the list of question 53.
-// Nothing is asked of them. They stand one by one since C lends them so, which makes it long; where one is too short, nothing is written.
+// Nothing is asked of them; where one is too short, nothing is written. They stand one by one, which makes it long: of its callers `tariff_check` and
+// `check_rows` are lent them so, and its contract names each table. A struct of lent tables was tried: the check loses what becomes of parts that another
+// struct is made of.
 pub fn check(
     theory: &[u8],
     goals: &[u8],
@@ -242,22 +246,23 @@ pub fn check(
         (working vars.new index.new words.new defs.new rows.new lists.new)
         missing.new facts.new) (answer_of result) × (drop FACTS facts.new ≡ drop FACTS facts.old) }
 {
-    if !fits(&[
-        sorts.len(),
-        symbols.len(),
-        inputs.len(),
-        rules.len(),
-        rulevars.len(),
-        patterns.len(),
-        vars.len(),
-        index.len(),
-        words.len(),
-        defs.len(),
-        rows.len(),
-        lists.len(),
-        missing.len(),
-        facts.len(),
-    ]) {
+    let lengths = Lengths {
+        sorts: sorts.len(),
+        symbols: symbols.len(),
+        inputs: inputs.len(),
+        rules: rules.len(),
+        rulevars: rulevars.len(),
+        patterns: patterns.len(),
+        vars: vars.len(),
+        index: index.len(),
+        words: words.len(),
+        defs: defs.len(),
+        rows: rows.len(),
+        lists: lists.len(),
+        missing: missing.len(),
+        facts: facts.len(),
+    };
+    if !lengths.fit() {
         return Err(Refusal::Tables);
     }
     let texts = Texts {

@@ -15,27 +15,7 @@ use Rattle.std.specs.Prelude.{reverse}
 use Rattle.std.specs.Bool.{Decides}
 use Rattle.std.proofs.lemmas.Bool.Decides.{same_from_decides}
 use Rattle.std.proofs.lemmas.List.{reverse-reverse}
-use Rattle.sexp.specs.Lexed.{wide, is_letter}
-
--- white space
-
-width : (t : Bool) (w : ℕ) → w ≡ wide t → (w ≡ 0 → ⊥) → t ≡ true
-width true w e h = refl
-width false w e h = absurd (h e)
-
-no_width : (t : Bool) (w : ℕ) → w ≡ wide t → w ≡ 0 → t ≡ false
-no_width true w e h = absurd (omega arith)
-no_width false w e h = refl
-
-module _ (b w : ℕ) (e : w ≡ wide (white b)) where
-  pub is_white : (w ≡ 0 → ⊥) → kind b ≡ blank
-  is_white h = kind_blank b (width (white b) w e h)
-
-  pub one_wide : (w ≡ 0 → ⊥) → w ≡ 1
-  one_wide h = e ∙ ap wide (width (white b) w e h)
-
-  pub not_white : w ≡ 0 → white b ≡ false
-  not_white h = no_width (white b) w e h
+use Rattle.sexp.specs.Lexed.{is_letter}
 
 -- letters
 

@@ -2,6 +2,7 @@
 pub mod ByteLaws
 pub mod Blocks
 pub mod Skips
+pub mod Comings
 pub mod CellLaws
 pub mod OpenLists
 pub mod States
@@ -11,3 +12,4 @@ pub mod IndexLaws
 pub mod TagLaws
 pub mod Firsts
 pub mod Lists
+pub mod Plain

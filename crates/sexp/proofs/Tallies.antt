@@ -6,6 +6,7 @@ use native.Mathlib.Omega.{arith}
 use lib.ListN.{length}
 use denote.Ref.{Bor}
 use Rattle.std.specs.Iterator.{Yields}
+use Rattle.std.specs.Prelude.{Option, Some, None}
 use Rattle.rules.specs.Sexp.{Sexp, Sexps, nil, cons, count, item}
 use Rattle.rules.specs.Laws.Sexp.{count_cons}
 use Rattle.sexp.specs.Encode.{encode, encodes}
@@ -64,11 +65,16 @@ module _ {words : List ℕ} {number at n : ℕ} (t : Seeks words number at n) wh
       let k = t xs e in
       omega (arith, k.sum, ap (place k.left) h, place_none k.left)
 
-  pub seek_over : length words ≤ at → (xs : Sexps) → words ≡ encodes xs → at ≡ place xs number
+  pub seek_over : length words ≤ at → Seeks words number at (n - 1)
   unfolding place
-  seek_over h xs e =
-      let k = t xs e in
-      omega (arith, k.sum, ap (λ y. place y n) (at_over k.left k.here h))
+  seek_over h =
+      λ xs f.
+      let k = t xs f in
+      record {
+        left = k.left;
+        here = k.here;
+        sum = omega (arith, k.sum, ap (λ y. place y n) (at_over k.left k.here h), ap (λ y. place y (n - 1)) (at_over k.left k.here h));
+      }
 
   pub seek_on : at < length words → 0 < n → (r : ℕ) → r ≡ behind at (item_at words at) → Seeks words number r (n - 1)
   seek_on h p r e =
@@ -80,6 +86,13 @@ module _ {words : List ℕ} {number at n : ℕ} (t : Seeks words number at n) wh
         here = next k.here m r e;
         sum = omega (arith, k.sum, ap (λ y. place y n) m.is, place_on m.first m.others n p, past k.here m r e);
       }
+
+-- a step of the walk, or none behind the last item
+pub seek_next :
+    {words : List ℕ} {number n : ℕ} (s t : Each) (o : Option (Bor (List ℕ))) → s.cells.now ≡ words → Seeks words number s.at n → 0 < n → Walks s o t →
+    (t.cells.now ≡ words) × Seeks words number t.at (n - 1)
+seek_next s t (Some x) e k p w = let h = here e w in (h.same, seek_on k h.inside p t.at h.behind)
+seek_next s t None e k p w = rw w.same (e, seek_over k (over e w))
 
 -- the item that is found
 pub nth_inside : {words : List ℕ} {number : ℕ} (h : Reaches words number) (at : ℕ) → ((xs : Sexps) → words ≡ encodes xs → at ≡ place xs number) → at < length words

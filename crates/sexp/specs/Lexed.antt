@@ -2,11 +2,6 @@
 use Rattle.std.specs.Prelude.{◌≡◌, ℕ, ◌+◌, ◌≤◌, ◌<◌, List, Bool, true, false, length, get_or, drop}
 use Rattle.rules.specs.Lex.{Kind, blank, left, right, semicolon, letter, kind, Token, between, in_comment, tokens, letters}
 
--- the width of a byte that is white space or not
-abbrev pub wide : Bool → ℕ
-wide true = 1
-wide false = 0
-
 abbrev pub is_letter : Kind → Bool
 is_letter blank = false
 is_letter left = false

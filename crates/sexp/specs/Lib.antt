@@ -1,6 +1,7 @@
 -- What the contracts of the reader cite, and the laws for its callers (ItemLaws, WalkLaws, ReadLaws, RowLaws,
 -- AtomText, FoundLaws, FirstItem, NthItem, Through).
 pub mod Lexed
+pub mod Tokens
 pub mod Encode
 pub mod Spelt
 pub mod Reads

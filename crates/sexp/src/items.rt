@@ -38,8 +38,8 @@ pub fn after(words: &[u32], at: usize) -> usize
     }
 }
 
-// The items of a list, one after the other, each by the cells from it on. The cells of the whole list and a place, and no slice that gets shorter: each walk
-// says by the place how far it has come, which of the slice only a difference of two lengths would say.
+// The items of a list, one after the other, each by the cells from it on. Not one slice that gets shorter, which is no plainer: `next` would be as long, and
+// the invariant of each walk, which says by the place how far it has come, would say it by a difference of two lengths.
 #[derive(Clone, Copy)]
 pub struct Each<'a> {
     pub cells: &'a [u32],
@@ -96,19 +96,16 @@ pub fn count(words: &[u32]) -> usize
     all(words).count()
 }
 
-// Where the item with that number begins, counted from 0, and with it the rest of the list. Not by `all(words).nth(number)`, which gives the cells from
-// there on, and none behind the last item: the place would be a difference of lengths, or the length.
+// Where the item with that number begins, counted from 0, and with it the rest of the list; `next` stands still at the end. Not by `all(words).nth(number)`,
+// which is no plainer: it gives the cells from there on, and none behind the last item, so that the place would be a difference of two lengths, or the length.
 pub fn place(words: &[u32], number: usize) -> usize
     ensures { (xs : Sexps) → words.now ≡ encodes xs → result ≡ place xs number }
 {
-    let mut at = 0;
+    let mut items = all(words);
     for _k in 0..number {
-        if at >= words.len() {
-            return at;
-        }
-        at = after(words, at);
+        items.next();
     }
-    at
+    items.at
 }
 
 // The items from that number on.

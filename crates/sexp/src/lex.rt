@@ -1,10 +1,12 @@
-// The questions put to the length of a table and to a text before it is read; what stands at a place of a text, and where it ends. How wide white space
-// is, and which bytes belong to an atom, is said here alone.
+// The questions put to the length of a table and to a text before it is read; what stands at a place of a text, and where it ends. Which bytes are
+// white space, and which belong to an atom, is said here alone.
 ghost use Rattle.std.specs.Prelude.{◌≡◌, true, ℕ, ◌+◌, ◌*◌, ◌≤◌, ◌<◌, leb, length, get_or, take, drop};
 ghost use Rattle.std.specs.Fn.{FnReturnsAt};
 ghost use Rattle.rules.specs.Text.{plain, short};
 ghost use Rattle.rules.specs.Lex.{white, kind, letter, letters};
-ghost use Rattle.sexp.specs.Lexed.{wide, is_letter, LineEnd, Skipped};
+ghost use Rattle.sexp.specs.Lexed.{is_letter, LineEnd, Skipped};
+
+use cells::Span;
 
 // Question 1, of one table: its length, and the least that is asked of it.
 pub fn fits(len: usize, limit: usize) -> bool
@@ -21,32 +23,27 @@ pub fn short(text: &[u8]) -> bool
 }
 
 // Question 3.
+#[tactic(auto, using(crate::proofs::Plain::plain_cases))]
 pub fn plain(text: &[u8]) -> bool
     ensures { result ≡ plain text.now }
 {
-    text.iter().all(|b| *b <= 127)
+    text.is_ascii()
 }
 
-// How many bytes of white space stand at a place; 0 where there is none. A width, not whether: nothing above knows that white space is a byte.
+// Whether a byte is white space.
 #[tactic(auto, unfolding(rules::specs::Lex::white))]
-pub fn white(text: &[u8], at: usize) -> usize
-    requires { at < length text.now }
-    ensures { result ≡ wide (white (get_or text.now at 0)) }
+pub fn white(b: u8) -> bool
+    ensures { result ≡ white b }
 {
-    match text[at] {
-        b' ' | b'\t'..=b'\r' => 1,
-        _ => 0,
-    }
+    matches!(b, b' ' | b'\t'..=b'\r')
 }
 
-// Whether the byte at a place belongs to an atom. Asked byte by byte: with `matches!` of the three bytes the lexer takes 10 % more instructions.
+// Whether a byte belongs to an atom. Asked byte by byte: with `matches!` of the three bytes the lexer takes 10 % more instructions.
 #[tactic(auto, unfolding(rules::specs::Lex::white, rules::specs::Lex::kind))]
-fn is_letter(text: &[u8], at: usize) -> bool
-    requires { at < length text.now }
-    ensures { result ≡ is_letter (kind (get_or text.now at 0)) }
+fn is_letter(b: u8) -> bool
+    ensures { result ≡ is_letter (kind b) }
 {
-    let b = text[at];
-    white(text, at) == 0 && b != b'(' && b != b')' && b != b';'
+    !white(b) && b != b'(' && b != b')' && b != b';'
 }
 
 // Whether the bytes are letters for sure: all lie above the brackets and white space and below 128, and none is `;`. Other letters get a no, and
@@ -90,9 +87,9 @@ pub fn atom_end(text: &[u8], start: usize) -> usize
     ensures { result ≡ start + length (letters (drop start text.now)) }
 {
     let mut at = start;
-    // no `position` over the bytes: long names are gone over by blocks
+    // no search over the bytes, which has no blocks: with `take_while` and `count` a text of long names takes 64 % more instructions
     while at < text.len() {
-        if is_letter(text, at) {
+        if is_letter(text[at]) {
             at += 1;
         } else {
             return at;
@@ -102,6 +99,17 @@ pub fn atom_end(text: &[u8], start: usize) -> usize
         }
     }
     at
+}
+
+// Where that atom stands.
+pub fn atom_span(text: &[u8], start: usize) -> Span
+    requires { start ≤ length text.now }
+    ensures { result ≡ record { from = start; end = start + length (letters (drop start text.now)) } }
+{
+    Span {
+        from: start,
+        end: atom_end(text, start),
+    }
 }
 
 // The bytes of that atom.
@@ -122,7 +130,7 @@ fn line_end(text: &[u8], from: usize) -> usize
     ensures { LineEnd text.now from result }
 {
     let mut at = from;
-    // no `position` over the bytes: long comments are gone over by blocks
+    // no search over the bytes, which has no blocks: with `position` a text of comments takes 23 % more instructions
     while at < text.len() {
         if text[at] == 10 {
             return at;
@@ -135,18 +143,20 @@ fn line_end(text: &[u8], from: usize) -> usize
     at
 }
 
-// The first place that is neither white space nor in a comment.
+// The first place that is neither white space nor in a comment. Put into the loops over tokens, as `next` of `Tokens` is.
+#[inline(always)]
 pub(crate) fn skip(text: &[u8], from: usize) -> usize
     requires { from ≤ length text.now }
     ensures { Skipped text.now from result }
 {
     let mut at = from;
-    // no iterator of the text: whether a byte is passed over depends on whether a comment is open before it
+    // no search over the bytes, which is no plainer: whether one is passed over depends on whether a comment is open before it, so that the test would carry
+    // that from byte to byte, and no block of a comment could be passed over at once
     while at < text.len() {
-        let w = white(text, at);
-        if w != 0 {
-            at += w;
-        } else if text[at] == b';' {
+        let b = text[at];
+        if white(b) {
+            at += 1;
+        } else if b == b';' {
             at = line_end(text, at + 1);
         } else {
             return at;

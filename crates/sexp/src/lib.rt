@@ -6,3 +6,4 @@ pub mod lex;
 pub mod names;
 pub mod sexp;
 pub mod tags;
+mod tokens;

@@ -1,13 +1,15 @@
 // Reads a text form by form. A form's cells: an atom is `2 * start + 1`, a list `2 * number of its items' cells`, followed by these:
 // kind and number in one, since C lends the cells as plain numbers.
-ghost use Rattle.std.specs.Prelude.{◌≡◌, ◌++◌, ◌+◌, ◌*◌, ◌-◌, ◌^◌, ◌≤◌, ◌<◌, length, get_or, set, drop, replicate};
+ghost use Rattle.std.specs.Prelude.{◌≡◌, ℕ, ◌++◌, ◌+◌, ◌*◌, ◌-◌, ◌^◌, ◌≤◌, ◌<◌, length, get_or, set, drop, replicate};
 ghost use Rattle.rules.specs.Limits.{LENGTH};
 ghost use Rattle.rules.specs.Sexp.{read};
 ghost use Rattle.sexp.specs.Reads.{Clear, ReadRight, found};
 ghost use Rattle.sexp.specs.Through.{Legible};
 ghost use Rattle.sexp.specs.Whole.{EndsAs};
+ghost use Rattle.sexp.specs.Tokens.{Gives};
+ghost use Rattle.sexp.specs.declared.tokens.Token.TheVariants.{Open};
 
-use crate::lex::{atom_end, skip};
+use crate::tokens::{Token, Tokens};
 use cells::clear;
 use questions::{Question, Refused};
 
@@ -36,48 +38,48 @@ fn close_list(words: &mut [u32], head: usize, count: usize) -> usize
     around
 }
 
-// Reads the list whose bracket is at a place. The outermost list has the first cell, which is zero already. Where it is not read, the cells that
-// it has so far become zero again.
-fn read_list(text: &[u8], from: usize, words: &mut [u32]) -> Result<Form, Question>
-    requires from_in_bounds { (from < length text.now) × (get_or text.now from 0 ≡ 40) }
-    requires legible { Legible text.now words.old }
-    ensures { ReadRight text.now from words.old words.new (found result) }
+// Reads the list whose bracket comes before these tokens. The outermost list has the first cell, which is zero already. Where it is not read, the cells that
+// it has so far become zero again: `or_cleared` around it would clear the whole table, since a refusal does not say how many it has.
+fn read_list(mut tokens: Tokens<'_>, words: &mut [u32]) -> Result<Form, Question>
+    requires behind_bracket { (from : ℕ) × Gives tokens.text.now from Open tokens.at }
+    requires legible { Legible tokens.text.now words.old }
+    ensures { (from : ℕ) → Gives tokens.entry.text.now from Open tokens.entry.at →
+        ReadRight tokens.entry.text.now from words.old words.new (found result) }
 {
-    let mut at = from + 1;
     let mut cells = 1;
     let mut depth = 1;
     let mut open = 0; // the cell of the innermost open list
-    // no `for` over tokens: the place behind the last bracket is part of the answer, and a `for` that is left does not say where it was
-    loop {
-        at = skip(text, at);
-        if at >= text.len() {
-            clear(&mut words[..cells]);
-            return Err(Question::Brackets);
-        }
-        let b = text[at];
-        if b == b'(' {
-            if depth == rules::DEPTH {
-                clear(&mut words[..cells]);
-                return Err(Question::Depth);
+    // no `for`: the place behind the last bracket is part of the answer, and a `for` that is left does not say where it was
+    while let Some(token) = tokens.next() {
+        match token {
+            Token::Open => {
+                if depth == rules::DEPTH {
+                    clear(&mut words[..cells]);
+                    return Err(Question::Depth);
+                }
+                put(words, cells, open);
+                open = cells;
+                cells += 1;
+                depth += 1;
             }
-            put(words, cells, open);
-            open = cells;
-            cells += 1;
-            depth += 1;
-            at += 1;
-        } else if b == b')' {
-            open = close_list(words, open, cells - open - 1);
-            depth -= 1;
-            at += 1;
-            if depth == 0 {
-                return Ok(Form { end: at, cells });
+            Token::Close => {
+                open = close_list(words, open, cells - open - 1);
+                depth -= 1;
+                if depth == 0 {
+                    return Ok(Form {
+                        end: tokens.at,
+                        cells,
+                    });
+                }
             }
-        } else {
-            put(words, cells, 2 * at + 1);
-            cells += 1;
-            at = atom_end(text, at);
+            Token::Atom(start) => {
+                put(words, cells, 2 * start + 1);
+                cells += 1;
+            }
         }
     }
+    clear(&mut words[..cells]);
+    Err(Question::Brackets)
 }
 
 // Reads one form, from a place of the text on, into cells that are zero; they stay zero behind the form, and where none was read.
@@ -86,59 +88,50 @@ pub fn read_form(text: &[u8], from: usize, words: &mut [u32]) -> Result<Option<F
     requires legible { Legible text.now words.old }
     ensures { ReadRight text.now from words.old words.new result }
 {
-    let at = skip(text, from);
-    if at >= text.len() {
-        return Ok(None);
+    let mut tokens = Tokens { text, at: from };
+    match tokens.next() {
+        None => Ok(None),
+        Some(Token::Open) => Ok(Some(read_list(tokens, words)?)),
+        Some(Token::Close) => Err(Question::Brackets),
+        Some(Token::Atom(start)) => {
+            put(words, 0, 2 * start + 1);
+            Ok(Some(Form {
+                end: tokens.at,
+                cells: 1,
+            }))
+        }
     }
-    let b = text[at];
-    if b == b'(' {
-        let form = read_list(text, at, words)?;
-        return Ok(Some(form));
-    }
-    if b == b')' {
-        return Err(Question::Brackets);
-    }
-    put(words, 0, 2 * at + 1);
-    Ok(Some(Form {
-        end: atom_end(text, at),
-        cells: 1,
-    }))
 }
 
 // How many bracketed forms a text has, without a look at them and without cells; of a text that is refused, how many stand before.
 pub fn read_all(text: &[u8]) -> Result<usize, Refused>
     ensures { EndsAs (read text.now) 0 result }
 {
-    let mut at = 0;
+    let tokens = Tokens { text, at: 0 };
     let mut depth = 0;
     let mut forms = 0;
-    // no `for` over tokens: their iterator, with its laws, would serve this loop alone, since `read_list` needs a place and `read_form` one token
-    loop {
-        at = skip(text, at);
-        if at >= text.len() {
-            if depth == 0 {
-                return Ok(forms);
+    for token in tokens {
+        match token {
+            Token::Open => {
+                if depth == rules::DEPTH {
+                    return Err(Question::Depth.behind(forms));
+                }
+                depth += 1;
             }
-            return Err(Question::Brackets.behind(forms));
-        }
-        let b = text[at];
-        if b == b'(' {
-            if depth == rules::DEPTH {
-                return Err(Question::Depth.behind(forms));
+            Token::Close => {
+                if depth == 0 {
+                    return Err(Question::Brackets.behind(forms));
+                }
+                depth -= 1;
+                if depth == 0 {
+                    forms += 1;
+                }
             }
-            depth += 1;
-            at += 1;
-        } else if b == b')' {
-            if depth == 0 {
-                return Err(Question::Brackets.behind(forms));
-            }
-            depth -= 1;
-            at += 1;
-            if depth == 0 {
-                forms += 1;
-            }
-        } else {
-            at = atom_end(text, at);
+            Token::Atom(_) => {}
         }
     }
+    if depth != 0 {
+        return Err(Question::Brackets.behind(forms));
+    }
+    Ok(forms)
 }

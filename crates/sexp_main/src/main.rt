@@ -57,14 +57,21 @@ fn show_all<W: Write>(out: &mut W, text: &[u8], words: &mut [u32]) -> io::Result
     }
 }
 
-fn main(rt: HostRuntime) -> io::Result<()> {
+fn run(rt: &HostRuntime) -> io::Result<()> {
     let alloc = rt.alloc();
     let mut text = Vec::new(alloc);
-    rt.reader().take(INPUT as u64).read_to_end(&mut text)?;
+    // `as`: there is no `From<usize> for u64`, in Rust as here
+    // where reading fails, what came before is gone through
+    let _ = rt.reader().take(INPUT as u64).read_to_end(&mut text);
     // no clause says how much a reader gives
     text.truncate(INPUT);
     let mut words = vec![in alloc; 0; text.len()]?;
-    let mut out = BufWriter::new(alloc, io::writer(&rt))?;
+    let mut out = BufWriter::new(alloc, io::writer(rt))?;
     show_all(&mut out, &text, &mut words)?;
     out.flush()
+}
+
+// The status is 0 whatever comes, and what cannot be written is left out.
+fn main(rt: HostRuntime) {
+    let _ = run(&rt);
 }

@@ -3,7 +3,7 @@ use mathlib.Core.Path.{◌≡◌, refl, sym, ap, ◌∙◌, subst}
 use Prim.Native.Nat.{ℕ, zero, suc, ◌+◌, ◌-◌, ◌*◌, ◌<◌, ◌≤◌}
 use mathlib.Core.Bool.{Bool, true, false}
 use native.Mathlib.Numerals.{add-one}
-use Rattle.std.specs.Prelude.{Option, Some as some, None as nothing, MatchOption}
+use Rattle.std.specs.Prelude.{Option, Some as some, None as nothing, MatchOption, IsSomeAnd}
 use mathlib.Core.List.{List, [], ◌∷◌, map}
 use native.Mathlib.Omega.{arith}
 use lib.ListN.{length, get_or, take, drop, length-map, get_or-map}
@@ -20,7 +20,7 @@ use Rattle.rules.specs.Laws.Theory.{All, all_at}
 use Rattle.rules.specs.Laws.Find.{first_here, first_later, first_over}
 use Rattle.sexp.specs.NameRows.{NameIn, NameRows, SomeNames}
 use Rattle.state.specs.Held.{text_of, VarsHeld, DefsHeld, GoalsHeld}
-use Rattle.state.specs.Rows.{SomeVars, SomeDefs, SomeGoals}
+use Rattle.state.specs.Rows.{SomeVars, SomeDefs, SomeGoals, DefFound}
 use Rattle.state.specs.RowCells.{var_row, def_row, goal_row, no_def, no_goal}
 use Rattle.state.specs.VarLaws.{var_at, vars_long}
 use Rattle.state.specs.DefLaws.{def_at, def_term, defs_long}
@@ -137,6 +137,16 @@ module _ {text defs : List ℕ} {count : ℕ} {M : Made} {ds : List Def} (h : De
         let t = def_term h i (def_below i e) in
         (p.means ∙ ap (λ j. some (get_or ds j no_def).term) q ∙ ap some (sym t.tree), t.below)
 
+    -- the cell of the row that is found, as a closure gives it
+    pub def_mapped : {P : ℕ → ℕ → Type 0} (q : Option ℕ) → MatchOption r (q ≡ nothing) (λ i. IsSomeAnd q (P i)) →
+        ((i j : ℕ) → r ≡ some i → P i j → j ≡ get_or defs (3 * i + 2) 0) → DefFound M ds name q
+    def_mapped {P} q m p = go r refl q m
+      where
+        go : (o : Option ℕ) → r ≡ o → (q : Option ℕ) → MatchOption o (q ≡ nothing) (λ i. IsSomeAnd q (P i)) → DefFound M ds name q
+        go nothing e q m = rw m (def_nowhere e)
+        go (some i) e nothing m = absurd m
+        go (some i) e (some j) m = rw (p i j e m) (def_here i e)
+
 pub some_defs : {text defs : List ℕ} {count : ℕ} → SomeDefs text defs count → SomeNames text defs 3 0 count
 some_defs s = (map (λ d. d.name) s.1, def_names s.2)
 
@@ -155,9 +165,9 @@ module _ {goals text vars : List ℕ} {count : ℕ} {vs : List Var} (h : VarsHel
   unfolding var_row name_cells
   starts = var_at h.stand i 2 l (omega arith)
 
-  ends : get_or vars (4 * i + 3) 0 ≡ (get_or vs i no_var).name.start + length (get_or vs i no_var).name.bytes
+  ends : get_or vars (4 * i + 2 + 1) 0 ≡ (get_or vs i no_var).name.start + length (get_or vs i no_var).name.bytes
   unfolding var_row name_cells
-  ends = var_at h.stand i 3 l (omega arith)
+  ends = (let next : 4 * i + 2 + 1 ≡ 4 * i + 3 = omega arith in ap (λ k. get_or vars k 0) next) ∙ var_at h.stand i 3 l (omega arith)
 
   stands_in : NameIn source (get_or vs i no_var).name
   unfolding var_row name_cells
@@ -168,15 +178,15 @@ module _ {goals text vars : List ℕ} {count : ℕ} {vs : List Var} (h : VarsHel
   pub var_row_in : 4 * i + 3 < length vars
   var_row_in = omega (arith, vars_long h.stand, h.stand.few)
 
-  pub var_order : get_or vars (4 * i + 2) 0 ≤ get_or vars (4 * i + 3) 0
+  pub var_order : get_or vars (4 * i + 2) 0 ≤ get_or vars (4 * i + 2 + 1) 0
   var_order = omega (arith, starts, ends)
 
-  pub var_inside : get_or vars (4 * i + 3) 0 ≤ length source
+  pub var_inside : get_or vars (4 * i + 2 + 1) 0 ≤ length source
   var_inside = omega (arith, ends, stands_in.inside)
 
-  pub var_bytes : take (get_or vars (4 * i + 3) 0 - get_or vars (4 * i + 2) 0) (drop (get_or vars (4 * i + 2) 0) source) ≡ (get_or vs i no_var).name.bytes
+  pub var_bytes : take (get_or vars (4 * i + 2 + 1) 0 - get_or vars (4 * i + 2) 0) (drop (get_or vars (4 * i + 2) 0) source) ≡ (get_or vs i no_var).name.bytes
   var_bytes =
-      let e : get_or vars (4 * i + 3) 0 - get_or vars (4 * i + 2) 0 ≡ length (get_or vs i no_var).name.bytes = omega (arith, starts, ends) in
+      let e : get_or vars (4 * i + 2 + 1) 0 - get_or vars (4 * i + 2) 0 ≡ length (get_or vs i no_var).name.bytes = omega (arith, starts, ends) in
       rw (e, starts) stands_in.spelt
 
 pub in_goals : (goals text : List ℕ) (k : ℕ) → k ≡ 2 → text_of goals text k ≡ goals
@@ -190,13 +200,13 @@ in_text goals text k e = ap (λ b. elim b [ true ↦ goals | false ↦ text ]) (
 -- the text in which the name is looked up, whichever it is
 module _ {goals text vars : List ℕ} {count i : ℕ} (s : SomeVars goals text vars count × (i < count)) (t : List ℕ)
     (e : text_of goals text (get_or vars (4 * i + 1) 0) ≡ t) where
-  pub name_inside : get_or vars (4 * i + 3) 0 ≤ length t
+  pub name_inside : get_or vars (4 * i + 2 + 1) 0 ≤ length t
   name_inside = rw e at (var_inside s.0.1 i s.1)
 
-  pub name_is : (name : List ℕ) {r : Bool} → r ≡ same (take (get_or vars (4 * i + 3) 0 - get_or vars (4 * i + 2) 0) (drop (get_or vars (4 * i + 2) 0) t)) name →
+  pub name_is : (name : List ℕ) {r : Bool} → r ≡ same (take (get_or vars (4 * i + 2 + 1) 0 - get_or vars (4 * i + 2) 0) (drop (get_or vars (4 * i + 2) 0) t)) name →
       (vs : List Var) → VarsHeld goals text vars count vs → r ≡ same (get_or vs i no_var).name.bytes name
   name_is name q vs h =
-      q ∙ ap (λ l. same (take (get_or vars (4 * i + 3) 0 - get_or vars (4 * i + 2) 0) (drop (get_or vars (4 * i + 2) 0) l)) name) (sym e)
+      q ∙ ap (λ l. same (take (get_or vars (4 * i + 2 + 1) 0 - get_or vars (4 * i + 2) 0) (drop (get_or vars (4 * i + 2) 0) l)) name) (sym e)
       ∙ ap (λ l. same l name) (var_bytes h i s.1)
 
 -- the first number that passes

@@ -2,6 +2,7 @@
 use Rattle.std.specs.Prelude.{◌≡◌, List, ℕ, ◌+◌, ◌^◌, ◌<◌, get_or, Result, Ok, Err}
 use Rattle.questions.specs.declared.Row.{Row}
 use Rattle.state.specs.declared.board.Board.{Board}
+use Rattle.state.specs.declared.goals.GoalTable.{GoalTable}
 use Rattle.state.specs.declared.sizes.Sizes.{Sizes}
 use Rattle.state.specs.Held.{Records, records}
 use Rattle.state.specs.Records.{fact_rows, fact_feet}
@@ -11,6 +12,10 @@ use Rattle.state.specs.Used.{facts_now}
 -- the tables of facts
 abbrev pub records_of : Board → Records
 records_of b = records (fact_rows b.facts.now) (fact_feet b.facts.now) b.lists.now
+
+-- the goals, as they are lent to be read
+abbrev pub goals_of : Board → GoalTable
+goals_of b = record { rows = record { ref_ptr = b.rows.ref_ptr; now = b.rows.now }; count = b.n.goals }
 
 -- Which tables stay ------------------------------------------------------------------------------------------------------------------
 

@@ -6,7 +6,9 @@ use Rattle.rules.specs.Tree.{var}
 use Rattle.rules.specs.Store.{Made}
 use Rattle.rules.specs.State.{Var, Def, Goal, abbreviated}
 use Rattle.state.specs.Held.{VarsHeld, DefsHeld, GoalsHeld, Records}
+use Rattle.state.specs.declared.goals.GoalTable.{GoalTable}
 use Rattle.state.specs.declared.sizes.Sizes.{Sizes}
+use Rattle.state.specs.declared.vars.VarTable.{VarTable}
 use Rattle.cells.specs.declared.Span.{Span}
 use Rattle.questions.specs.declared.Row.{Row}
 use Rattle.questions.specs.declared.Text.{Text}
@@ -27,6 +29,13 @@ pub record Fits4 (a b c d : ℕ) : Type 0 where
 
 abbrev pub SomeVars : List ℕ → List ℕ → List ℕ → ℕ → Type 0
 SomeVars goals text vars count = (vs : List Var) × VarsHeld goals text vars count vs
+
+-- the same of the table as it is lent with its texts
+abbrev pub VarsIn : VarTable → List Var → Type 0
+VarsIn t vs = VarsHeld t.goals.now t.text.now t.rows.now t.count vs
+
+abbrev pub SomeVarsIn : VarTable → Type 0
+SomeVarsIn t = SomeVars t.goals.now t.text.now t.rows.now t.count
 
 -- a whole table of them, and the number of a row
 abbrev pub VarAt : List ℕ → ℕ → Type 0
@@ -51,6 +60,13 @@ DefFound M ds name nothing = abbreviated ds name ≡ nothing
 
 abbrev pub SomeGoals : List ℕ → List ℕ → ℕ → Type 0
 SomeGoals text goals count = (M : Made) × (gs : List Goal) × GoalsHeld text goals count M gs
+
+-- the same of the table as it is lent
+abbrev pub GoalsIn : List ℕ → GoalTable → Made → List Goal → Type 0
+GoalsIn text t M gs = GoalsHeld text t.rows.now t.count M gs
+
+abbrev pub SomeGoalsIn : List ℕ → GoalTable → Type 0
+SomeGoalsIn text t = SomeGoals text t.rows.now t.count
 
 abbrev pub GoalAt : List ℕ → ℕ → Type 0
 GoalAt goals k = (length goals ≡ 6 * GOALS) × (k < GOALS)

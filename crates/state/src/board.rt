@@ -1,4 +1,8 @@
 // The texts and tables of a check: what is given to it, and what it fills.
+ghost use Rattle.std.specs.Prelude.{◌≡◌};
+ghost use Rattle.state.specs.Boards.{goals_of};
+
+use crate::goals::GoalTable;
 use crate::sizes::Sizes;
 use facts::Fact;
 use kernel::rule_readers::Rules;
@@ -24,4 +28,16 @@ pub struct Board<'a> {
     pub facts: &'a mut [Fact],
     pub lists: &'a mut [u32],
     pub n: Sizes,
+}
+
+impl Board<'_> {
+    // The goals, as names are looked up in them.
+    pub fn goal_table(&self) -> GoalTable<'_>
+        ensures { result ≡ goals_of self.now }
+    {
+        GoalTable {
+            rows: self.rows,
+            count: self.n.goals,
+        }
+    }
 }

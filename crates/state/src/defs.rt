@@ -16,8 +16,7 @@ pub fn def_named(text: &[u8], defs: &[u32], count: usize, name: &[u8]) -> Option
     requires { SomeDefs text.now defs.now count }
     ensures { (M : Made) (ds : List Def) → DefsHeld text.now defs.now count M ds → DefFound M ds name.now result }
 {
-    let i = named(text, defs, 3, 0, count, name)?;
-    Some(defs[3 * i + 2] as usize)
+    named(text, defs, 3, 0, count, name).map(|i| defs[3 * i + 2] as usize)
 }
 
 // The row of abbreviation d; its name stands in the text from which it is read.

@@ -3,19 +3,27 @@ ghost use Rattle.std.specs.Prelude.{◌≡◌, not, List, [], ◌∷◌, ℕ, �
 ghost use Rattle.std.proofs.lemmas.List.Edits.{sets};
 ghost use Rattle.rules.specs.Store.{Made};
 ghost use Rattle.rules.specs.State.{Goal, goal_named};
-ghost use Rattle.state.specs.Held.{GoalsHeld};
-ghost use Rattle.state.specs.Rows.{cell, Fits4, SomeGoals, GoalAt, list_span};
+ghost use Rattle.state.specs.Rows.{cell, Fits4, SomeGoalsIn, GoalsIn, GoalAt, list_span};
 
 use cells::Span;
 use kernel::atoms::put_span;
 use sexp::names::named;
 
-// The goal with these bytes for a name.
-pub fn goal_named(text: &[u8], goals: &[u32], count: usize, name: &[u8]) -> Option<usize>
-    requires { SomeGoals text.now goals.now count }
-    ensures { (M : Made) (gs : List Goal) → GoalsHeld text.now goals.now count M gs → result ≡ goal_named gs name.now }
-{
-    named(text, goals, 6, 0, count, name)
+// The goals that there are. Their names stand in the text of the goals, which is lent where a name is looked up and nowhere else.
+#[derive(Clone, Copy)]
+pub struct GoalTable<'a> {
+    pub rows: &'a [u32],
+    pub count: usize,
+}
+
+impl GoalTable<'_> {
+    // The goal with these bytes for a name.
+    pub fn named(&self, text: &[u8], name: &[u8]) -> Option<usize>
+        requires { SomeGoalsIn text.now self.now }
+        ensures { (M : Made) (gs : List Goal) → GoalsIn text.now self.now M gs → result ≡ goal_named gs name.now }
+    {
+        named(text, self.rows, 6, 0, self.count, name)
+    }
 }
 
 // That the goal is there (`GoalAt`) stands in each contract, and no type says it: C lends the table as plain cells, and what is promised is a cell of row k

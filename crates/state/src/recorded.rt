@@ -2,7 +2,7 @@
 // (hypotheses, premises, generalised variables). What is promised of a record speaks of its row of six cells and its four words, as the definition's tables
 // have them.
 ghost use Rattle.std.specs.Prelude.{◌≡◌, not, List, ℕ, ◌+◌, ◌*◌, ◌<◌, ◌≤◌, ◌^◌, eqb, ltb, length, take, drop};
-ghost use Rattle.rules.specs.Limits.{FACTS, ENTRIES};
+ghost use Rattle.rules.specs.Limits.{FACTS, ENTRIES, RULEWORDS};
 ghost use Rattle.rules.specs.Find.{union};
 ghost use Rattle.terms.specs.Sets.{holds};
 ghost use Rattle.state.specs.Boards.{records_of, SameBoard, OnlyFacts, OnlyHyps, EnterAs, Words, HypPutAs};
@@ -15,7 +15,7 @@ use crate::sizes::Sizes;
 use cells::Span;
 use facts::{Fact, append, fact_at, judgment_of};
 use questions::Row;
-use rules::RULEWORDS;
+use rules::{FACTWORDS, RULEWORDS};
 use terms::sets::{count, union_into, write_out};
 
 // Whether fact i is there: every look-up of a named fact asks this.
@@ -95,9 +95,9 @@ pub fn general(facts: &[Fact], i: usize) -> Span
 }
 
 // The footing of fact i joins the set.
-pub fn join_footing(facts: &[Fact], i: usize, set: &mut [u64])
-    requires { FactAt (fact_rows facts.now) i × (length set.old ≡ 4) }
-    ensures { holds set.new ≡ union (holds set.old) (holds (take 4 (drop (4 * i) (fact_feet facts.now)))) }
+pub fn join_footing(facts: &[Fact], i: usize, set: &mut [u64; RULEWORDS])
+    requires { FactAt (fact_rows facts.now) i }
+    ensures { holds set.new ≡ union (holds set.old) (holds (take RULEWORDS (drop (RULEWORDS * i) (fact_feet facts.now)))) }
 {
     union_into(set, &fact_at(facts, i).footing);
 }
@@ -122,15 +122,14 @@ impl Board<'_> {
     pub fn put_derived(
         &mut self,
         judgment: usize,
-        hyps: &[u64],
+        hyps: &[u64; FACTWORDS],
         footing: &[u64; RULEWORDS],
     ) -> Result<(), Row>
-        requires putting { Putting (records_of self.old) self.old.n judgment }
-        requires hyps_value { 64 * length hyps.now ≡ FACTS }
+        requires { Putting (records_of self.old) self.old.n judgment }
         ensures same_board { SameBoard self.old self.new }
         ensures only { OnlyFacts self.old self.new }
         ensures enter_as { EnterAs self.old self.new judgment hyps.now footing.now result }
-        ensures words { Words footing.now × (length footing.now ≡ 4) }
+        ensures words { Words footing.now × (length footing.now ≡ RULEWORDS) }
     {
         let n = self.n;
         let many = count(hyps);
@@ -163,7 +162,7 @@ impl Board<'_> {
         requires { ((footings : List ℕ) × Putting (records (fact_rows self.old.facts.now) footings self.old.lists.now) self.old.n judgment) × (premises + general < 2 ^ 32) }
         ensures same_board { SameBoard self.old self.new }
         ensures only { OnlyHyps self.old self.new }
-        ensures put_as { (footings : List ℕ) → length footings ≡ 4 * FACTS → HypPutAs self.old self.new footings judgment premises general result }
+        ensures put_as { (footings : List ℕ) → length footings ≡ RULEWORDS * FACTS → HypPutAs self.old self.new footings judgment premises general result }
     {
         let n = self.n;
         let end = room(n, 1 + premises + general)?;

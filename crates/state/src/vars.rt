@@ -4,10 +4,9 @@ ghost use Rattle.std.specs.Prelude.{◌≡◌, List, [], ◌∷◌, ℕ, ◌*◌
 ghost use Rattle.std.proofs.lemmas.List.Edits.{sets};
 ghost use Rattle.rules.specs.Text.{same};
 ghost use Rattle.rules.specs.State.{Var, var_named, no_var};
-ghost use Rattle.state.specs.Held.{VarsHeld};
-ghost use Rattle.state.specs.Rows.{cell, Fits4, SomeVars, VarAt, text_cell};
+ghost use Rattle.state.specs.Rows.{cell, Fits4, SomeVarsIn, VarsIn, VarAt, text_cell};
 
-use cells::Span;
+use cells::{Span, span_at};
 use kernel::atoms::put_span;
 use questions::Text;
 use sexp::names::same;
@@ -31,23 +30,22 @@ pub struct VarTable<'a> {
 impl VarTable<'_> {
     // Whether variable i has these bytes for a name.
     fn is_var(&self, i: usize, name: &[u8]) -> bool
-        requires { SomeVars self.now.goals.now self.now.text.now self.now.rows.now self.now.count × (i < self.now.count) }
-        ensures { (vs : List Var) → VarsHeld self.now.goals.now self.now.text.now self.now.rows.now self.now.count vs →
+        requires { SomeVarsIn self.now × (i < self.now.count) }
+        ensures { (vs : List Var) → VarsIn self.now vs →
             result ≡ same (get_or vs i no_var).name.bytes name.now }
     {
         let at = 4 * i;
-        let start = self.rows[at + 2] as usize;
-        let end = self.rows[at + 3] as usize;
+        let span = span_at(self.rows, at + 2);
         if self.rows[at + 1] == text_cell(Some(Text::Goals)) {
-            return same(&self.goals[start..end], name);
+            return same(span.of(self.goals), name);
         }
-        same(&self.text[start..end], name)
+        same(span.of(self.text), name)
     }
 
     // The variable with these bytes for a name.
     pub fn named(&self, name: &[u8]) -> Option<usize>
-        requires { SomeVars self.now.goals.now self.now.text.now self.now.rows.now self.now.count }
-        ensures { (vs : List Var) → VarsHeld self.now.goals.now self.now.text.now self.now.rows.now self.now.count vs →
+        requires { SomeVarsIn self.now }
+        ensures { (vs : List Var) → VarsIn self.now vs →
             result ≡ var_named vs name.now }
     {
         (0..self.count).find(|i| self.is_var(*i, name))
@@ -73,14 +71,10 @@ pub fn put_var(vars: &mut [u32], v: usize, sort: usize, text: Option<Text>, name
     put_span(vars, at + 2, name);
 }
 
-// The row of variable v, which was made: it has no name, and no text in which one stands. A function beside `put_var`, which would want a span to write.
+// The row of variable v, which was made: it has no name, and no text in which one stands.
 pub fn put_made_var(vars: &mut [u32], v: usize, sort: usize)
     requires { VarAt vars.old v × (sort < 2 ^ 32) }
     ensures { vars.new ≡ sets vars.old (4 * v) (sort ∷ 0 ∷ 0 ∷ 0 ∷ []) }
 {
-    let at = 4 * v;
-    vars[at] = sort as u32;
-    vars[at + 1] = text_cell(None);
-    vars[at + 2] = 0;
-    vars[at + 3] = 0;
+    put_var(vars, v, sort, None, Span { from: 0, end: 0 });
 }

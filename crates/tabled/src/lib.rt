@@ -52,7 +52,7 @@ fn store_rows(facts: &[Fact], rows: &mut [u32], feet: &mut [u64])
 }
 
 // The answer, the tables as a check leaves them, and the facts in the last two. Nothing here calls it: it is public and promised (`Tabled`) for tables of any
-// length; they are lent on one by one to `schematic::check`, and are most of its length.
+// length; its contract names each table, and they are lent on one by one to `schematic::check`, beside which it is said why. They are most of its length.
 pub fn check_rows(
     theory: &[u8],
     goals: &[u8],

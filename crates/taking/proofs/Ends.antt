@@ -1,6 +1,9 @@
 -- A form that is taken or refused, from what it was when it was tried: the terms of a refused form are taken away. Assumes nothing.
 use mathlib.Core.Path.{◌≡◌, refl, sym, ap, ◌∙◌, subst}
+use mathlib.Core.Bool.{true, false, false≢true, true≢false}
 use native.Mathlib.Omega.{arith}
+use Rattle.std.specs.Prelude.{Result, Ok, Err}
+use Rattle.std.specs.Result.{is_err}
 use Rattle.rules.specs.Out.{Out, refuse}
 use Rattle.rules.specs.State.{State}
 use Rattle.questions.specs.declared.Question.{Question}
@@ -17,6 +20,15 @@ use Rattle.forms.specs.Boards.{StandsIn, texts_of, theory_of}
 use Rattle.forms.specs.Moved.{store_now, LeftIn}
 use Rattle.forms.specs.Laws.Leaving.{stands_again}
 use Rattle.taking.specs.Taking.{Refuses}
+
+-- what a result is, by whether it is an error
+pub err_of : {T E : Type 0} (r : Result T E) → is_err r ≡ true → (e : E) × (r ≡ Err e)
+err_of (Ok _) h = absurd (false≢true h)
+err_of (Err e) h = (e, refl)
+
+pub ok_of : {T E : Type 0} (r : Result T E) → is_err r ≡ false → (x : T) × (r ≡ Ok x)
+ok_of (Ok x) h = (x, refl)
+ok_of (Err _) h = absurd (true≢false h)
 
 -- what is said of a refused form
 abbrev pub Refused : Given → Board → Board → Store → Store → State → Out State (Unit {0}) → Question → Type 0

@@ -56,7 +56,7 @@ fn goal_items(
 }
 
 // A form of the goals, by its cells; the text is that of the goals. One function for this and `take_form` would be handed the reading of the items and
-// what that promises.
+// what that promises. The three lines in which both end are no method of the store either: it would say of any answer what it leaves, which is no plainer.
 pub fn take_goal(
     given: &Given<'_>,
     board: &mut Board<'_>,

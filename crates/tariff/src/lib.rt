@@ -38,6 +38,7 @@ fn tell(out: &mut [u64], answer: Result<Report, Refusal>)
         ],
         Err(r) => [0, r.number(), r.text(), r.form(), r.detail(), 0, 0, 0],
     };
+    // `as`: there is no `From<usize> for u64`, in Rust as here
     put(out, &eight.map(|n| n as u64));
 }
 

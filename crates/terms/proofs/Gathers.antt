@@ -1,9 +1,11 @@
 -- A node gathered anew, with its arguments as the memo has them. Assumes nothing.
 use mathlib.Core.Path.{◌≡◌, refl, sym, ap, ◌∙◌, subst}
 use mathlib.Core.Bool.{Bool, true, false}
-use Rattle.std.specs.Prelude.{Result}
+use Rattle.std.specs.Prelude.{Result, Option, Some as some, None as nothing}
+use Rattle.std.specs.Option.{SomeIff, unwrap_or}
 use mathlib.Core.List.{List, [], ◌∷◌, ◌++◌}
 use Prim.Native.Nat.{ℕ, zero, suc, ◌+◌, ◌-◌, ◌≤◌, ◌<◌, suc-le-suc}
+use native.Mathlib.Numerals.{add-one}
 use native.Mathlib.Omega.{arith}
 use native.Mathlib.Nat.{not-suc-le-zero, le_of_suc-le-suc, zero-lt-suc}
 use lib.ListN.{length, get_or, take, drop, set, length-set, get_or-eq_default}
@@ -16,7 +18,7 @@ use Rattle.terms.specs.declared.store.Mark.{Mark}
 use Rattle.questions.specs.declared.Row.{Row}
 use Rattle.terms.specs.Table.{run, args_of, tree_at, made, Shaped, Node, After}
 use Rattle.terms.specs.Subst.{image, renumbered, rebuilt, Rebuildable}
-use Rattle.terms.specs.Laws.Runs.{run_length, run_more, run_none}
+use Rattle.terms.specs.Laws.Runs.{run_length, run_at, run_more, run_none}
 
 -- image_of ---------------------------------------------------------------------------------------------------------------------------
 
@@ -30,6 +32,10 @@ image_some map v id n = sym (ap (λ (b : Bool). elim b [ true ↦ id | false ↦
 
 pub image_out : (map : List ℕ) (v id : ℕ) → length map ≤ v → id ≡ image map v id
 image_out map v id h = image_none map v id 0 (sym (get_or-eq_default map 0 {n = v} h)) refl
+
+pub image_found : (map : List ℕ) (v id n : ℕ) (o : Option ℕ) → n ≡ get_or map v 0 → SomeIff o (1 ≤ n) (n - 1) → unwrap_or o id ≡ image map v id
+image_found map v id n nothing q e = let z : (1 ≤ n → ⊥) = e in image_none map v id n q (omega arith)
+image_found map v id n (some t) q e = let l = e.0 in e.1 ∙ ap (λ (k : ℕ). k - 1) q ∙ image_some map v id (λ z. omega arith)
 
 -- Renumbered arguments -----------------------------------------------------------------------------------------------------------------
 
@@ -68,37 +74,43 @@ rebuilt_length W memo s e r =
 
 -- gather -------------------------------------------------------------------------------------------------------------------------------
 
--- what is left of the arguments decides
-pub record Gathering (W memo l now : List ℕ) (s e at : ℕ) : Type 0 where
+-- k arguments are there, and what is left of them decides
+pub record Gathering (W memo l now : List ℕ) (s e k : ℕ) : Type 0 where
   pub ready : Rebuildable W memo s e
   pub room : NODE ≤ length l
-  pub from : s < at
-  pub upto : at ≤ e
+  pub upto : s + 1 + k ≤ e
   pub long : length now ≡ length l
-  pub left : sets now (at - s) (renumbered memo (run W at (e - at))) ≡ sets l 1 (renumbered memo (run W (s + 1) (e - (s + 1))))
+  pub left : sets now (k + 1) (renumbered memo (run W (s + 1 + k) (e - (s + 1 + k)))) ≡ sets l 1 (renumbered memo (run W (s + 1) (e - (s + 1))))
 
-module _ (W memo l now : List ℕ) (s e at : ℕ) (g : Gathering W memo l now s e at) (h : at < e) where
-  pub gathering_on : Gathering W memo l (set now (at - s) (get_or memo (get_or W at 0) 0 - 1)) s e (at + 1)
+module _ (W memo l now : List ℕ) (s e k : ℕ) (g : Gathering W memo l now s e k) (h : k < length (run W (s + 1) (e - (s + 1)))) where
+  pub gathering_on : Gathering W memo l (set now (k + 1) (get_or memo (get_or (run W (s + 1) (e - (s + 1))) k 0) 0 - 1)) s e (k + 1)
   gathering_on =
-      let f = g.from in
-      let z : at + 1 - s ≡ suc (at - s) = omega arith in
-      let x = get_or memo (get_or W at 0) 0 - 1 in
-      record {
+      let f = g.upto in
+      let t = g.ready.fits in
+      let n = run_length W (s + 1) (e - (s + 1)) (omega arith) in
+      let z : s + 1 + k + 1 ≡ s + 1 + (k + 1) = omega arith in
+      let y = get_or memo (get_or W (s + 1 + k) 0) 0 - 1 in
+      rw (run_at W (s + 1) (e - (s + 1)) k (omega arith))
+      (record {
         ready = g.ready;
         room = g.room;
-        from = omega arith;
         upto = omega arith;
-        long = length-set now (at - s) x ∙ g.long;
-        left = ap (λ (j : ℕ). sets (set now (at - s) x) j (renumbered memo (run W (at + 1) (e - (at + 1))))) z
-            ∙ ap (sets now (at - s)) (sym (renumbered_more memo W at e h g.ready.fits)) ∙ g.left;
-      }
+        long = length-set now (k + 1) y ∙ g.long;
+        left = ap (λ (j : ℕ). sets (set now (k + 1) y) (k + 1 + 1) (renumbered memo (run W j (e - j)))) (sym z)
+            ∙ ap (λ (j : ℕ). sets (set now (k + 1) y) j (renumbered memo (run W (s + 1 + k + 1) (e - (s + 1 + k + 1))))) (add-one (k + 1))
+            ∙ ap (sets now (k + 1)) (sym (renumbered_more memo W (s + 1 + k) e (omega arith) g.ready.fits)) ∙ g.left;
+      })
 
-pub gathering_ends : (W memo l now : List ℕ) (s e at : ℕ) → Gathering W memo (set l 0 (get_or W s 0)) now s e at → NODE ≤ length l → e ≤ at → now ≡ rebuilt W memo s e ++ drop (e - s) l
-gathering_ends W memo l now s e at g k h =
+pub gathering_ends : (W memo l now : List ℕ) (s e k : ℕ) → Gathering W memo (set l 0 (get_or W s 0)) now s e k → NODE ≤ length l
+    → length (run W (s + 1) (e - (s + 1))) ≤ k → now ≡ rebuilt W memo s e ++ drop (e - s) l
+gathering_ends W memo l now s e k g r h =
     let a = rebuilt_length W memo s e g.ready in
     let b = g.ready.narrow in
+    let c = g.ready.some in
+    let f = g.ready.fits in
+    let n = run_length W (s + 1) (e - (s + 1)) (omega arith) in
     let z : 0 + length (rebuilt W memo s e) ≡ e - s = omega arith in
-    ap (sets now (at - s)) (sym (renumbered_none memo W at e h)) ∙ g.left
+    ap (sets now (k + 1)) (sym (renumbered_none memo W (s + 1 + k) e (omega arith))) ∙ g.left
     ∙ sets-eq (rebuilt W memo s e) l 0 (omega arith)
     ∙ ap (λ (j : ℕ). rebuilt W memo s e ++ drop j l) z
 

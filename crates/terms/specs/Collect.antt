@@ -5,6 +5,8 @@ use Rattle.rules.specs.Find.{Set, union}
 use Rattle.rules.specs.Tree.{Tree, Trees, var, app, none, more, variables, are_open}
 use Rattle.rules.specs.Store.{Made, number}
 use Rattle.terms.specs.declared.store.Mark.{Mark}
+use Rattle.terms.specs.declared.store.Terms.{Terms}
+use Rattle.terms.specs.Sets.{holds}
 use Rattle.terms.specs.Table.{made, tree, Good}
 
 -- the numbers of a tree's nodes that have an argument with a variable
@@ -35,3 +37,17 @@ pub record Visited (I W : List ℕ) (m : Mark) (id : ℕ) (seen a seen' a' : Set
   pub set : a' ≡ union a (variables (tree I W m id))
   pub nodes : seen' ≡ union seen (open_nodes (made I W m) (tree I W m id))
   pub visits : Seen I W m seen' a'
+
+-- As they are lent --------------------------------------------------------------------------------------------------------------
+
+-- each is the relation of the same meaning over plain tables
+abbrev pub ReadableIn : Terms → ℕ → List ℕ → List ℕ → Type 0
+ReadableIn t id seen set = Readable t.index.now t.words.now t.mark id seen set
+
+-- what was visited before is right for the set
+abbrev pub SeenIn : Terms → List ℕ → List ℕ → Type 0
+SeenIn t seen set = Seen t.index.now t.words.now t.mark (holds seen) (holds set)
+
+-- `seen'` and `set'` are the two sets after the visit
+abbrev pub VisitedIn : Terms → ℕ → List ℕ → List ℕ → List ℕ → List ℕ → Type 0
+VisitedIn t id seen set seen' set' = Visited t.index.now t.words.now t.mark id (holds seen) (holds set) (holds seen') (holds set')

@@ -7,7 +7,10 @@ use Rattle.rules.specs.Tree.{Tree, Trees, var, app, none, more, size, sizes, cou
 use Rattle.rules.specs.Store.{Made}
 use Rattle.rules.specs.Match.{Bound, matches, match_all, build}
 use Rattle.terms.specs.declared.store.Mark.{Mark}
+use Rattle.terms.specs.declared.store.Terms.{Terms}
+use Rattle.terms.specs.declared.store.Store.{Store}
 use Rattle.terms.specs.declared.patterns.Built.{Built}
+use Rattle.terms.specs.declared.patterns.Patterns.{Patterns}
 use Rattle.questions.specs.Numbers.{number_of, detail_of}
 use Rattle.questions.specs.declared.Question.{Question}
 use Rattle.terms.specs.Sets.{counted_from_1}
@@ -159,3 +162,33 @@ pub record BuiltBy (I W J X : List ℕ) (old new : Mark) (K : Out Made Tree) (be
 abbrev pub BuiltAt : List ℕ → List ℕ → List ℕ → List ℕ → List ℕ → List ℕ → Mark → Mark → List ℕ → ℕ → Result Built Question → Type 0
 BuiltAt S P I W J X old new B at r =
     (p : Tree) → Stands S P at p → BuiltBy I W J X old new (build p (bound_of (made I W old) B) (made I W old)) (at + size p) r
+
+-- As they are lent --------------------------------------------------------------------------------------------------------------
+
+-- each is the relation of the same meaning over plain tables; s and t are the store before and after a call, `bound` and `after` what is bound
+abbrev pub SkippableIn : Patterns → ℕ → ℕ → Type 0
+SkippableIn p at n = Skippable p.symbols.now p.words.now at n
+
+abbrev pub SkippedIn : Patterns → ℕ → ℕ → ℕ → Type 0
+SkippedIn p at n r = Skipped p.symbols.now p.words.now at n r
+
+abbrev pub MatchableIn : Patterns → Terms → List (Option ℕ) → ℕ → ℕ → Type 0
+MatchableIn p t bound at id = Matchable p.symbols.now p.words.now t.index.now t.words.now t.mark (cells_of bound) at id
+
+abbrev pub AllMatchableIn : Patterns → Terms → List (Option ℕ) → ℕ → List ℕ → Type 0
+AllMatchableIn p t bound at ids = AllMatchable p.symbols.now p.words.now t.index.now t.words.now t.mark (cells_of bound) at ids
+
+abbrev pub TriedIn : Patterns → Terms → List (Option ℕ) → List (Option ℕ) → ℕ → ℕ → Option ℕ → Type 0
+TriedIn p t bound after at id r = TriedAt p.symbols.now p.words.now t.index.now t.words.now t.mark (cells_of bound) (cells_of after) at id r
+
+abbrev pub AllTriedIn : Patterns → Terms → List (Option ℕ) → List (Option ℕ) → ℕ → List ℕ → Option ℕ → Type 0
+AllTriedIn p t bound after at ids r = TriedAll p.symbols.now p.words.now t.index.now t.words.now t.mark (cells_of bound) (cells_of after) at ids r
+
+abbrev pub AllMatchedIn : Patterns → Terms → List (Option ℕ) → List (Option ℕ) → ℕ → List ℕ → Bool → Type 0
+AllMatchedIn p t bound after at ids r = MatchedAll p.symbols.now p.words.now t.index.now t.words.now t.mark (cells_of bound) (cells_of after) at ids r
+
+abbrev pub BuildableIn : Patterns → Store → List (Option ℕ) → ℕ → Type 0
+BuildableIn p s bound at = Buildable p.symbols.now p.words.now s.index.now s.words.now s.mark (cells_of bound) at
+
+abbrev pub BuiltIn : Patterns → Store → Store → List (Option ℕ) → ℕ → Result Built Question → Type 0
+BuiltIn p s t bound at r = BuiltAt p.symbols.now p.words.now s.index.now s.words.now t.index.now t.words.now s.mark t.mark (cells_of bound) at r

@@ -6,6 +6,7 @@ use Rattle.rules.specs.Out.{Out}
 use Rattle.rules.specs.Tree.{Tree, var, sub}
 use Rattle.rules.specs.Store.{Made, make}
 use Rattle.terms.specs.declared.store.Mark.{Mark}
+use Rattle.terms.specs.declared.store.Store.{Store}
 use Rattle.questions.specs.Numbers.{row_number}
 use Rattle.questions.specs.declared.Row.{Row}
 use Rattle.terms.specs.Table.{run, made, Good, Stored, Refused}
@@ -72,3 +73,18 @@ pub record Done (I W J X : List ℕ) (old : Mark) (map memo memo' : List ℕ) (i
 abbrev pub Substituted : List ℕ → List ℕ → List ℕ → List ℕ → Mark → Mark → List ℕ → List ℕ → List ℕ → ℕ → Result ℕ Row → Type 0
 Substituted I W J X old new map memo memo' id (Ok n) = Done I W J X old map memo memo' id n new
 Substituted I W J X old new map memo memo' id (Err row) = Refused Tree I W J X old (asked I W old map id) (row_number row) new
+
+-- As they are lent --------------------------------------------------------------------------------------------------------------
+
+-- s and t: the store before and after a call
+abbrev pub ReplaceableIn : Store → List ℕ → ℕ → Type 0
+ReplaceableIn s map id = Replaceable s.index.now s.words.now s.mark map id
+
+abbrev pub ReplacingIn : Store → List ℕ → List ℕ → ℕ → Type 0
+ReplacingIn s map memo id = Replacing s.index.now s.words.now s.mark map memo id
+
+abbrev pub substituted_in : Store → List ℕ → ℕ → Tree
+substituted_in s map id = substituted s.index.now s.words.now s.mark map id
+
+abbrev pub SubstitutedIn : Store → Store → List ℕ → List ℕ → List ℕ → ℕ → Result ℕ Row → Type 0
+SubstitutedIn s t map memo memo' id r = Substituted s.index.now s.words.now t.index.now t.words.now s.mark t.mark map memo memo' id r

@@ -1,5 +1,5 @@
-// What the first word of a node, and each word of a pattern, stands for. The tables are C's, so that it is a number there; `head_of` takes it
-// apart.
+// What the first word of a node, and each word of a pattern, stands for. The tables are C's, so that it is a number there; `Head::from` takes
+// it apart.
 ghost use Rattle.terms.specs.Heads.{HeadOf};
 
 use rules::SYMBOLS;
@@ -11,11 +11,13 @@ pub enum Head {
 }
 
 // That of a word: a symbol's number, or SYMBOLS and a variable's.
-pub fn head_of(word: u32) -> Head
-    ensures { HeadOf word result }
-{
-    match (word as usize).checked_sub(SYMBOLS) {
-        Some(v) => Head::Variable(v),
-        None => Head::Symbol(word as usize),
+impl From<u32> for Head {
+    ghost from_gives = { λ word head. HeadOf word head };
+
+    fn from(word: u32) -> Head {
+        match (word as usize).checked_sub(SYMBOLS) {
+            Some(v) => Head::Variable(v),
+            None => Head::Symbol(word as usize),
+        }
     }
 }

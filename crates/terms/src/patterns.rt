@@ -3,15 +3,16 @@
 ghost use Rattle.std.specs.Prelude.{◌≡◌, ◌*◌, ◌<◌, length};
 ghost use Rattle.rules.specs.Limits.{SYMBOLS};
 ghost use Rattle.terms.specs.Lent.{SameTables};
-ghost use Rattle.terms.specs.Patterns.{arity, Skippable, Skipped, args_by_table, Matchable, AllMatchable, TriedAt, TriedAll, MatchedAll, Buildable, BuiltAt, cells_of};
+ghost use Rattle.terms.specs.Patterns.{arity, args_by_table, SkippableIn, SkippedIn, MatchableIn, AllMatchableIn, TriedIn, AllTriedIn, AllMatchedIn, BuildableIn, BuiltIn};
 
-use crate::heads::{Head, head_of};
+use crate::heads::Head;
 use crate::store::{Store, Terms};
 use questions::Question;
 use rules::{NODE, RULEVARS};
 
-// What a rule's variables are bound to: the numbers of terms.
-pub type Bound = [Option<usize>; RULEVARS];
+// What a rule's variables are bound to: the numbers of terms, as the tables have them. Of `usize` it takes twice the room, and a check of a thousand
+// steps some 4 % more time (timed without proof).
+pub type Bound = [Option<u32>; RULEVARS];
 
 // A term's number, and the place behind the pattern's words.
 #[derive(Clone, Copy, Debug, PartialEq, Eq)]
@@ -43,7 +44,7 @@ impl Patterns<'_> {
         requires { length self.now.symbols.now ≡ 4 * SYMBOLS }
         ensures { result ≡ args_by_table self.now.symbols.now word }
     {
-        match head_of(word) {
+        match Head::from(word) {
             Head::Symbol(symbol) => self.arity_of(symbol),
             Head::Variable(_) => 0,
         }
@@ -51,8 +52,8 @@ impl Patterns<'_> {
 
     // The place behind the words of n patterns.
     pub fn skip(&self, at: usize, n: usize) -> usize
-        requires { Skippable self.now.symbols.now self.now.words.now at n }
-        ensures { Skipped self.now.symbols.now self.now.words.now at n result }
+        requires { SkippableIn self.now at n }
+        ensures { SkippedIn self.now at n result }
     {
         let mut place = at;
         let mut left = n;
@@ -74,16 +75,16 @@ impl Patterns<'_> {
         at: usize,
         id: usize,
     ) -> Option<usize>
-        requires { Matchable self.now.symbols.now self.now.words.now terms.now.index.now terms.now.words.now terms.now.mark (cells_of bound.old) at id }
-        ensures { TriedAt self.now.symbols.now self.now.words.now terms.now.index.now terms.now.words.now terms.now.mark (cells_of bound.old) (cells_of bound.new) at id result }
+        requires { MatchableIn self.now terms.now bound.old at id }
+        ensures { TriedIn self.now terms.now bound.old bound.new at id result }
     {
-        match head_of(self.words[at]) {
+        match Head::from(self.words[at]) {
             Head::Variable(v) => {
                 let Some(term) = bound[v] else {
-                    bound[v] = Some(id);
+                    bound[v] = Some(id as u32);
                     return Some(at + 1);
                 };
-                (term == id).then_some(at + 1)
+                (term as usize == id).then_some(at + 1)
             }
             Head::Symbol(symbol) => {
                 let node = terms.node(id);
@@ -99,17 +100,17 @@ impl Patterns<'_> {
         }
     }
 
-    // The place behind the words of the patterns from `at` on, if they meet the terms one by one.
+    // The place behind the words of the patterns from `at` on, if they meet the terms one by one; if they do not, what is bound is of no use.
     #[cycle(matching)]
-    fn match_terms(
+    pub fn match_terms(
         &self,
         terms: &Terms<'_>,
         bound: &mut Bound,
         at: usize,
         ids: &[u32],
     ) -> Option<usize>
-        requires { AllMatchable self.now.symbols.now self.now.words.now terms.now.index.now terms.now.words.now terms.now.mark (cells_of bound.old) at ids.now }
-        ensures { TriedAll self.now.symbols.now self.now.words.now terms.now.index.now terms.now.words.now terms.now.mark (cells_of bound.old) (cells_of bound.new) at ids.now result }
+        requires { AllMatchableIn self.now terms.now bound.old at ids.now }
+        ensures { AllTriedIn self.now terms.now bound.old bound.new at ids.now result }
     {
         let mut place = at;
         for id in ids {
@@ -118,10 +119,11 @@ impl Patterns<'_> {
         Some(place)
     }
 
-    // Patterns from `at` on against as many terms: whether all match; if not, what is bound is as it was.
+    // Patterns from `at` on against as many terms: whether all match; if not, what is bound is as it was. Public and promised; nothing here calls
+    // it, since what is bound without a match is of no use to a step.
     pub fn match_all(&self, terms: &Terms<'_>, bound: &mut Bound, at: usize, ids: &[u32]) -> bool
-        requires { AllMatchable self.now.symbols.now self.now.words.now terms.now.index.now terms.now.words.now terms.now.mark (cells_of bound.old) at ids.now }
-        ensures { MatchedAll self.now.symbols.now self.now.words.now terms.now.index.now terms.now.words.now terms.now.mark (cells_of bound.old) (cells_of bound.new) at ids.now result }
+        requires { AllMatchableIn self.now terms.now bound.old at ids.now }
+        ensures { AllMatchedIn self.now terms.now bound.old bound.new at ids.now result }
     {
         let old = *bound;
         if self.match_terms(terms, bound, at, ids).is_some() {
@@ -133,16 +135,16 @@ impl Patterns<'_> {
 
     // The pattern at `at` under the bindings comes into the store, arguments first, if each of its variables is bound and there is room.
     pub fn build(&self, store: &mut Store<'_>, bound: &Bound, at: usize) -> Result<Built, Question>
-        requires { Buildable self.now.symbols.now self.now.words.now store.old.index.now store.old.words.now store.old.mark (cells_of bound.now) at }
+        requires { BuildableIn self.now store.old bound.now at }
         ensures same_tables { SameTables store.old store.new }
-        ensures built { BuiltAt self.now.symbols.now self.now.words.now store.old.index.now store.old.words.now store.new.index.now store.new.words.now store.old.mark store.new.mark (cells_of bound.now) at result }
+        ensures built { BuiltIn self.now store.old store.new bound.now at result }
     {
         let word = self.words[at];
-        let count = match head_of(word) {
+        let count = match Head::from(word) {
             Head::Variable(v) => {
                 let known = bound[v].ok_or(Question::Matching)?;
                 return Ok(Built {
-                    term: known,
+                    term: known as usize,
                     end: at + 1,
                 });
             }

@@ -6,9 +6,9 @@ ghost use Rattle.rules.specs.Limits.{NODE};
 ghost use Rattle.rules.specs.Store.{keep as keep_tree};
 ghost use Rattle.terms.specs.Table.{tree_at, Shaped};
 ghost use Rattle.terms.specs.Lent.{GoodStore, SameTables, KeptAs, made_of};
-ghost use Rattle.terms.specs.Subst.{image, rebuilt, Rebuildable, Replacing, Substituted};
+ghost use Rattle.terms.specs.Subst.{image, rebuilt, Rebuildable, ReplacingIn, SubstitutedIn};
 
-use crate::heads::{Head, head_of};
+use crate::heads::Head;
 use crate::store::Store;
 use questions::Row;
 use rules::NODE;
@@ -17,25 +17,22 @@ use rules::NODE;
 fn image_of(map: &[u32], v: usize, id: usize) -> usize
     ensures { result ≡ image map.now v id }
 {
-    if map.len() <= v {
+    let Some(cell) = map.get(v) else {
         return id;
-    }
-    let bound = map[v] as usize;
-    if bound == 0 { id } else { bound - 1 }
+    };
+    (*cell as usize).checked_sub(1).unwrap_or(id)
 }
 
 // The node that stands from `start` to `end`, with its arguments as the memo has them. By two places, of which the relations speak, that
-// follow terms through a store that grows. The cells go by number, since behind a zip with
-// `iter_mut` nothing is known of what was written.
+// follow terms through a store that grows. The cells go by number, since behind a zip with `iter_mut` nothing is known of what was written.
 fn gather(words: &[u32], memo: &[u32], start: usize, end: usize, node: &mut [u32])
     requires rebuildable { Rebuildable words.now memo.now start end }
     requires in_bounds { NODE ≤ length node.old }
     ensures { node.new ≡ rebuilt words.now memo.now start end ++ drop (end - start) node.old }
 {
     node[0] = words[start];
-    // by its place: the store is lent on in each turn
-    for at in start + 1..end {
-        node[at - start] = memo[words[at] as usize] - 1;
+    for (k, arg) in words[start + 1..end].iter().enumerate() {
+        node[k + 1] = memo[*arg as usize] - 1;
     }
 }
 
@@ -45,7 +42,8 @@ fn rebuild(store: &mut Store<'_>, memo: &[u32], start: usize, end: usize) -> Res
     requires rebuildable { Rebuildable store.old.words.now memo.now start end }
     requires shaped { Shaped store.old.mark.terms (rebuilt store.old.words.now memo.now start end) }
     ensures same_tables { SameTables store.old store.new }
-    ensures kept { let t = tree_at (made_of store.old) (rebuilt store.old.words.now memo.now start end) in KeptAs store.old store.new t (keep_tree t (made_of store.old)) result }
+    ensures kept { let t = tree_at (made_of store.old) (rebuilt store.old.words.now memo.now start end) in
+        KeptAs store.old store.new t (keep_tree t (made_of store.old)) result }
 {
     // an array, as in `Patterns::build`
     let mut node = [0u32; NODE];
@@ -60,13 +58,12 @@ pub fn replace(
     memo: &mut [u32],
     id: usize,
 ) -> Result<usize, Row>
-    requires { let s = store.old in Replacing s.index.now s.words.now s.mark map.now memo.old id }
+    requires { ReplacingIn store.old map.now memo.old id }
     ensures same_tables { SameTables store.old store.new }
-    ensures substituted { let s = store.old in let t = store.new in Substituted s.index.now s.words.now t.index.now t.words.now s.mark t.mark map.now memo.old memo.new id result }
+    ensures substituted { SubstitutedIn store.old store.new map.now memo.old memo.new id result }
 {
-    let known = memo[id] as usize;
-    if known != 0 {
-        return Ok(known - 1);
+    if let Some(known) = (memo[id] as usize).checked_sub(1) {
+        return Ok(known);
     }
     let terms = store.terms();
     if !terms.is_open(id) {
@@ -75,7 +72,7 @@ pub fn replace(
     }
     let start = terms.start_of(id);
     let end = terms.index[id] as usize;
-    if let Head::Variable(v) = head_of(terms.words[start]) {
+    if let Head::Variable(v) = Head::from(terms.words[start]) {
         let value = image_of(map, v, id);
         memo[id] = (value + 1) as u32;
         return Ok(value);

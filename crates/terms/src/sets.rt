@@ -1,6 +1,7 @@
 // Sets of numbers as words of 64 bits: VARIABLEWORDS of them for variables, FACTWORDS for facts, RULEWORDS for rules, TERMWORDS for
 // terms, which are the most. A contract speaks of the set (`holds`), never of a bit. A set is emptied by `cells::clear`. No set of the
-// library holds them: there is no heap, and C lends the tables.
+// library holds them: there is no heap, and C lends the tables. Where two sets must be as long as each other, a clause asks it: an array of a const
+// length would ask more, as these functions are public, and `join_footing` of `state` has a slice.
 ghost use Rattle.std.specs.Prelude.{◌≡◌, ◌+◌, ◌*◌, ◌≤◌, ◌<◌, eqb, length};
 ghost use Rattle.std.proofs.lemmas.List.Edits.{sets};
 ghost use Rattle.rules.specs.Limits.{TERMS, TERMWORDS};

@@ -6,11 +6,12 @@ ghost use Rattle.std.specs.Bool.{Decides};
 ghost use Rattle.rules.specs.Limits.{TERMS, VARIABLES, WORDS};
 ghost use Rattle.rules.specs.Tree.{is_open, var};
 ghost use Rattle.rules.specs.Store.{keep};
-ghost use Rattle.terms.specs.Table.{INDEX, BUCKETS, start, tree_at, node_at, hash, flag, Shaped, Node, settled, Part, Back};
+ghost use Rattle.terms.specs.Table.{INDEX, BUCKETS, start, tree_at, node_at, hash, flag, Shaped, Node, settled};
 ghost use Rattle.terms.specs.Node.{seek, Linked, Unlinked, Held, HeldIn, HeadIs, OpenIs};
-ghost use Rattle.terms.specs.Lent.{GoodTerms, GoodStore, terms_made, terms_of, made_of, SameTables, KeptAs};
+ghost use Rattle.terms.specs.Lent.{GoodTerms, GoodStore, terms_made, terms_of, made_of, SameTables, KeptAs, PartIn, BackIn};
 
-use crate::heads::{Head, head_of};
+use crate::heads::Head;
+use cells::clear;
 use questions::Row;
 use rules::{SYMBOLS, TERMS};
 
@@ -86,10 +87,9 @@ impl Terms<'_> {
         requires { id ≤ length self.now.index.now }
         ensures { result ≡ start self.now.index.now id }
     {
-        if id == 0 {
-            0
-        } else {
-            self.index[id - 1] as usize
+        match id.checked_sub(1) {
+            Some(before) => self.index[before] as usize,
+            None => 0,
         }
     }
 
@@ -101,7 +101,7 @@ impl Terms<'_> {
         &self.words[self.start_of(id)..self.index[id] as usize]
     }
 
-    // The head of the term `id`: a symbol, or SYMBOLS and a variable's number. Public and promised; nothing here calls it, since `head_of` takes
+    // The head of the term `id`: a symbol, or SYMBOLS and a variable's number. Public and promised; nothing here calls it, since `Head::from` takes
     // words apart.
     pub fn head(&self, id: usize) -> usize
         requires { Held self.now.index.now self.now.words.now id }
@@ -143,7 +143,7 @@ impl Terms<'_> {
         requires shaped { Shaped self.now.mark.terms node.now }
         ensures { result ≡ is_open (tree_at (terms_made self.now) node.now) }
     {
-        if let Head::Variable(_) = head_of(node[0]) {
+        if let Head::Variable(_) = Head::from(node[0]) {
             return true;
         }
         node[1..].iter().any(|arg| self.is_open(*arg as usize))
@@ -217,7 +217,8 @@ impl Store<'_> {
         Ok(id)
     }
 
-    // The variable v as a term.
+    // The variable v as a term. A variable's word is made here and in `variable` of the crate `kernel`: a way back from `Head` for the two would
+    // be a function and a contract more, which say this same sum.
     pub fn keep_var(&mut self, v: usize) -> Result<usize, Row>
         requires { GoodStore self.old × (v < VARIABLES) }
         ensures same_tables { SameTables self.old self.new }
@@ -230,7 +231,7 @@ impl Store<'_> {
     fn drop_last(&mut self)
         requires { GoodStore self.old × (0 < self.old.mark.terms) }
         ensures same_tables { SameTables self.old self.new }
-        ensures back { Back self.old.index.now self.old.words.now self.new.index.now self.new.words.now self.new.mark }
+        ensures back { BackIn self.old self.new self.new.mark }
         ensures mark { (self.new.mark.terms ≡ self.old.mark.terms - 1) × (self.new.mark.words ≤ self.old.mark.words) }
     {
         let n = self.mark.terms - 1;
@@ -239,7 +240,7 @@ impl Store<'_> {
         let bucket = bucket_of(terms.node(n));
         let end = self.mark.words;
         unlink(self.index, n, bucket);
-        self.words[start..end].fill(0);
+        clear(&mut self.words[start..end]);
         self.mark = Mark {
             terms: n,
             words: start,
@@ -248,9 +249,9 @@ impl Store<'_> {
 
     // The tables go back to the old mark: the terms behind it are taken away, the highest first.
     pub fn forget(&mut self, old: Mark)
-        requires { Part self.old.index.now self.old.words.now self.old.mark old }
+        requires { PartIn self.old old }
         ensures same_tables { SameTables self.old self.new }
-        ensures back { Back self.old.index.now self.old.words.now self.new.index.now self.new.words.now old }
+        ensures back { BackIn self.old self.new old }
         ensures mark { self.new.mark ≡ old }
     {
         for _ in old.terms..self.mark.terms {
@@ -266,6 +267,6 @@ impl Store<'_> {
         ensures words { self.new.words.now ≡ self.old.words.now }
         ensures mark { self.new.mark ≡ self.old.mark }
     {
-        self.index[CHAINS..].fill(0);
+        clear(&mut self.index[CHAINS..]);
     }
 }

@@ -1,9 +1,8 @@
 // A term under a substitution, with a memo that is zero before and after (src/replace.rt).
 ghost use Rattle.std.specs.Prelude.{◌≡◌, ◌<◌, length, replicate};
 ghost use Rattle.rules.specs.Store.{substitute as substitute_tree};
-ghost use Rattle.terms.specs.Table.{tree};
-ghost use Rattle.terms.specs.Lent.{SameTables, KeptAs, made_of};
-ghost use Rattle.terms.specs.Subst.{replacement, substituted, Replaceable};
+ghost use Rattle.terms.specs.Lent.{SameTables, KeptAs, made_of, tree_of};
+ghost use Rattle.terms.specs.Subst.{replacement, substituted_in, ReplaceableIn};
 
 use crate::replace::replace;
 use crate::store::Store;
@@ -20,10 +19,11 @@ pub fn substitute(
     memo: &mut [u32],
     id: usize,
 ) -> Result<usize, Row>
-    requires replaceable { let s = store.old in Replaceable s.index.now s.words.now s.mark map.now id }
+    requires replaceable { ReplaceableIn store.old map.now id }
     requires id_in_bounds { (id < length memo.old) × (memo.old ≡ replicate (length memo.old) 0) }
     ensures same_tables { SameTables store.old store.new }
-    ensures kept { let s = store.old in KeptAs s store.new (substituted s.index.now s.words.now s.mark map.now id) (substitute_tree (replacement (made_of s) map.now) (tree s.index.now s.words.now s.mark id) (made_of s)) result }
+    ensures kept { let s = store.old in
+        KeptAs s store.new (substituted_in s map.now id) (substitute_tree (replacement (made_of s) map.now) (tree_of s id) (made_of s)) result }
     ensures memo_unchanged { memo.new ≡ memo.old }
 {
     let end = id + 1;

@@ -3,11 +3,11 @@ ghost use Rattle.std.specs.Prelude.{◌≡◌, ◌<◌, length, replicate};
 ghost use Rattle.rules.specs.Limits.{VARIABLES, VARIABLEWORDS};
 ghost use Rattle.rules.specs.Find.{union};
 ghost use Rattle.rules.specs.Tree.{variables as variables_in};
-ghost use Rattle.terms.specs.Table.{tree};
+ghost use Rattle.terms.specs.Lent.{tree_made};
 ghost use Rattle.terms.specs.Sets.{holds};
-ghost use Rattle.terms.specs.Collect.{Seen, Readable, Visited};
+ghost use Rattle.terms.specs.Collect.{ReadableIn, SeenIn, VisitedIn};
 
-use crate::heads::{Head, head_of};
+use crate::heads::Head;
 use crate::sets::{has, insert};
 use crate::store::Terms;
 use cells::clear;
@@ -16,15 +16,15 @@ use rules::VARIABLEWORDS;
 // The variables of the term `id` join the set, and its open nodes those that were visited; a term that was visited has its own there already,
 // so that over many calls, too, a shared subterm is visited once.
 pub fn visit(terms: &Terms<'_>, id: usize, seen: &mut [u64], set: &mut [u64])
-    requires readable { let t = terms.now in Readable t.index.now t.words.now t.mark id seen.old set.old }
-    requires seen { let t = terms.now in Seen t.index.now t.words.now t.mark (holds seen.old) (holds set.old) }
-    ensures { let t = terms.now in Visited t.index.now t.words.now t.mark id (holds seen.old) (holds set.old) (holds seen.new) (holds set.new) }
+    requires readable { ReadableIn terms.now id seen.old set.old }
+    requires seen { SeenIn terms.now seen.old set.old }
+    ensures { VisitedIn terms.now id seen.old set.old seen.new set.new }
 {
     if !terms.is_open(id) || has(seen, id) {
         return;
     }
     let node = terms.node(id);
-    if let Head::Variable(v) = head_of(node[0]) {
+    if let Head::Variable(v) = Head::from(node[0]) {
         insert(set, v);
         return;
     }
@@ -36,9 +36,9 @@ pub fn visit(terms: &Terms<'_>, id: usize, seen: &mut [u64], set: &mut [u64])
 
 // The variables of the term `id` join the set. `seen` is scratch: zero before and after.
 pub fn variables(terms: &Terms<'_>, id: usize, seen: &mut [u64], set: &mut [u64])
-    requires readable { let t = terms.now in Readable t.index.now t.words.now t.mark id seen.old set.old }
+    requires readable { ReadableIn terms.now id seen.old set.old }
     requires seen_value { seen.old ≡ replicate (length seen.old) 0 }
-    ensures joined { let t = terms.now in holds set.new ≡ union (holds set.old) (variables_in (tree t.index.now t.words.now t.mark id)) }
+    ensures joined { holds set.new ≡ union (holds set.old) (variables_in (tree_made terms.now id)) }
     ensures seen_unchanged { seen.new ≡ seen.old }
 {
     visit(terms, id, seen, set);
@@ -47,9 +47,9 @@ pub fn variables(terms: &Terms<'_>, id: usize, seen: &mut [u64], set: &mut [u64]
 
 // Whether the variable `x` occurs in the term `id`. `seen` is scratch: zero before and after.
 pub fn occurs(terms: &Terms<'_>, id: usize, x: usize, seen: &mut [u64]) -> bool
-    requires readable { let t = terms.now in Readable t.index.now t.words.now t.mark id seen.old (replicate VARIABLEWORDS 0) }
+    requires readable { ReadableIn terms.now id seen.old (replicate VARIABLEWORDS 0) }
     requires seen_value { (seen.old ≡ replicate (length seen.old) 0) × (x < VARIABLES) }
-    ensures occurs { let t = terms.now in result ≡ variables_in (tree t.index.now t.words.now t.mark id) x }
+    ensures occurs { result ≡ variables_in (tree_made terms.now id) x }
     ensures seen_unchanged { seen.new ≡ seen.old }
 {
     let mut set = [0u64; VARIABLEWORDS];

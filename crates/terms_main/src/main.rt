@@ -19,7 +19,7 @@ use std::alloc::Global;
 use std::fmt::{self, Display};
 use std::io::{self, BufWriter, Write};
 use std::marker::Model;
-use terms::heads::{Head, head_of};
+use terms::heads::Head;
 use terms::sets::has;
 use terms::store::{Mark, Store, Terms};
 use terms::substitute::substitute;
@@ -107,7 +107,7 @@ impl fmt::Display for Shown<'_> {
     fn fmt<W: fmt::Write>(&self, f: &mut fmt::Formatter<W>) -> fmt::Result {
         let terms = self.terms;
         let node = terms.node(self.id);
-        if let Head::Variable(v) = head_of(node[0]) {
+        if let Head::Variable(v) = Head::from(node[0]) {
             return write!(f, "x{v}");
         }
         let name = match node[0] {
@@ -160,11 +160,8 @@ fn show_bindings<W: Write>(out: &mut W, terms: &Terms<'_>, theta: &[u32]) -> io:
     requires { GoodTerms terms.now × Theta terms.now.mark theta.now }
 {
     for (v, value) in theta.iter().enumerate() {
-        if *value != 0 {
-            let value = Shown {
-                terms: *terms,
-                id: *value as usize - 1,
-            };
+        if let Some(id) = (*value as usize).checked_sub(1) {
+            let value = Shown { terms: *terms, id };
             writeln!(out, "x{v} = {value}")?;
         }
     }
@@ -215,13 +212,18 @@ fn solve<W: Write>(out: &mut W, alloc: Global, left: &str, right: &str) -> Resul
     show_under(out, "second becomes", alloc, &mut store, &theta, t)
 }
 
-fn main(rt: HostRuntime) -> Result<()> {
+fn run(rt: &HostRuntime) -> Result<()> {
     let alloc = rt.alloc();
-    let mut out = BufWriter::new(alloc, io::writer(&rt))?;
+    let mut out = BufWriter::new(alloc, io::writer(rt))?;
     for (left, right) in [("f0f10", "ffa1fb2"), ("f01", "ff1af0a"), ("f0a", "fbb")] {
         solve(&mut out, alloc, left, right)?;
         writeln!(out)?;
     }
     out.flush()?;
     Ok(())
+}
+
+// The status is 0 whatever comes, and what cannot be written is left out.
+fn main(rt: HostRuntime) {
+    let _ = run(&rt);
 }

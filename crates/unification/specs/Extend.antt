@@ -6,6 +6,8 @@ use Rattle.rules.specs.Tree.{Tree}
 use Rattle.rules.specs.Store.{Made, substitute}
 use Rattle.rules.specs.Unify.{Binding, insert}
 use Rattle.terms.specs.declared.store.Mark.{Mark}
+use Rattle.terms.specs.declared.store.Store.{Store}
+use Rattle.unification.specs.declared.unify.Scratch.{Scratch}
 use Rattle.questions.specs.Numbers.{row_number}
 use Rattle.questions.specs.declared.Row.{Row}
 use Rattle.terms.specs.Table.{made, Good, Grown, Refused, tree}
@@ -67,3 +69,18 @@ pub record Bound (I W J X : List ℕ) (old : Mark) (theta : List ℕ) (x u : ℕ
 abbrev pub Extended : List ℕ → List ℕ → List ℕ → List ℕ → Mark → Mark → List ℕ → ℕ → ℕ → Out Made (List Binding) → Result (Unit {0}) Row → Type 0
 Extended I W J X old new theta x u K (Ok done) = Bound I W J X old theta x u K new
 Extended I W J X old new theta x u K (Err row) = Refused (List Binding) I W J X old K (row_number row) new × (length theta ≡ VARIABLES)
+
+-- As they are lent -------------------------------------------------------------------------------------------------------------------
+
+-- s and t: the store before and after a call
+abbrev pub ChangeableIn : Store → List ℕ → List ℕ → List ℕ → Type 0
+ChangeableIn s theta map memo = Changeable s.index.now s.words.now s.mark theta map memo
+
+abbrev pub ChangedIn : Store → Store → List ℕ → List ℕ → Out Made (List Binding) → Result (Unit {0}) Row → Type 0
+ChangedIn s t theta theta' K r = ChangedAs s.index.now s.words.now t.index.now t.words.now s.mark t.mark theta theta' K r
+
+abbrev pub ExtendableIn : Store → Scratch → List ℕ → ℕ → ℕ → Type 0
+ExtendableIn s w theta x u = Extendable s.index.now s.words.now s.mark theta w.map.now w.memo.now x u
+
+abbrev pub ExtendedIn : Store → Store → List ℕ → ℕ → ℕ → Out Made (List Binding) → Result (Unit {0}) Row → Type 0
+ExtendedIn s t theta' x u K r = Extended s.index.now s.words.now t.index.now t.words.now s.mark t.mark theta' x u K r

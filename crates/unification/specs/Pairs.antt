@@ -6,6 +6,7 @@ use Rattle.rules.specs.Tree.{var}
 use Rattle.rules.specs.Store.{Made}
 use Rattle.rules.specs.Unify.{Pair, Look, agree, clash, binds, parts}
 use Rattle.terms.specs.declared.store.Mark.{Mark}
+use Rattle.terms.specs.declared.store.Terms.{Terms}
 use Rattle.unification.specs.declared.pairs.Asks.{Asks}
 use Rattle.unification.specs.declared.pairs.Asks.TheVariants.{Nothing, Clash, Binds, Parts}
 use Rattle.terms.specs.Table.{args_of, made, Good, tree}
@@ -42,6 +43,16 @@ Answered I W m L Nothing = L ≡ agree
 Answered I W m L Clash = L ≡ clash
 Answered I W m L (Binds x u) = BindsTo I W m L x u
 Answered I W m L (Parts xs ys) = PartsAre I W m L xs.now ys.now
+
+-- the same of terms as they are lent
+abbrev pub SearchableIn : Terms → List ℕ → ℕ → Type 0
+SearchableIn t seen id = Searchable t.index.now t.words.now t.mark seen id
+
+abbrev pub ComparableIn : Terms → List ℕ → ℕ → ℕ → Type 0
+ComparableIn t seen left right = Comparable t.index.now t.words.now t.mark seen left right
+
+abbrev pub AnsweredIn : Terms → Look → Asks → Type 0
+AnsweredIn t L r = Answered t.index.now t.words.now t.mark L r
 
 -- Pairs --------------------------------------------------------------------------------------------------------------------------
 

@@ -8,9 +8,12 @@ use Rattle.rules.specs.Store.{Made, substitute}
 use Rattle.rules.specs.Unify.{Binding, Pair, Look, agree, clash, parts, push, Found, finished, clashed, bound, peel, weight, solve}
 use Rattle.meaning.specs.Unification.List.{Settled}
 use Rattle.terms.specs.declared.store.Mark.{Mark}
+use Rattle.terms.specs.declared.store.Terms.{Terms}
+use Rattle.terms.specs.declared.store.Store.{Store}
 use Rattle.questions.specs.Numbers.{row_number}
 use Rattle.questions.specs.declared.Row.{Row}
 use Rattle.questions.specs.declared.Row.TheVariants as rows
+use Rattle.unification.specs.declared.unify.Scratch.{Scratch}
 use Rattle.unification.specs.declared.peel.Step.{Step}
 use Rattle.unification.specs.declared.peel.Step.TheVariants.{Done, Clash, Binds}
 use Rattle.terms.specs.Table.{made, Good, Grown, Refused, tree}
@@ -197,3 +200,47 @@ abbrev pub SolvedAs : List ℕ → List ℕ → List ℕ → List ℕ → Mark �
 SolvedAs I W J X old new theta K (Ok true) = Solved I W J X old theta K new
 SolvedAs I W J X old new theta K (Ok false) = Unsolved I W J X old theta K new
 SolvedAs I W J X old new theta K (Err row) = Refused (Option (List Binding)) I W J X old K (row_number row) new
+
+-- As they are lent -------------------------------------------------------------------------------------------------------------------
+
+-- s and t: the store before and after a call; x and y: the scratch
+abbrev pub SideableIn : Store → List ℕ → List ℕ → ℕ → ℕ → Type 0
+SideableIn s theta memo left right = Sideable s.index.now s.words.now s.mark theta memo left right
+
+abbrev pub SidedIn : Store → Store → List ℕ → List ℕ → ℕ → ℕ → Result (ℕ × ℕ) Row → Type 0
+SidedIn s t theta memo' left right r = Sided s.index.now s.words.now t.index.now t.words.now s.mark t.mark theta memo' left right r
+
+abbrev pub LookableIn : Terms → Scratch → ℕ → ℕ → Type 0
+LookableIn t x left right = Lookable t.index.now t.words.now t.mark x.pairs.now x.seen.now x.waiting left right
+
+abbrev pub LookedIn : Terms → Scratch → Scratch → Look → Result Step Row → Type 0
+LookedIn t x y L r = Looked t.index.now t.words.now t.mark x.pairs.now y.pairs.now x.waiting y.waiting L r
+
+abbrev pub PeelableIn : Store → Scratch → List ℕ → Type 0
+PeelableIn s x theta = Peelable s.index.now s.words.now s.mark theta x.memo.now x.pairs.now x.seen.now x.waiting
+
+abbrev pub TurnedIn : Store → Store → Scratch → Scratch → List ℕ → Result Step Row → Type 0
+TurnedIn s t x y theta r =
+    Turned s.index.now s.words.now t.index.now t.words.now s.mark t.mark theta y.memo.now x.pairs.now y.pairs.now x.seen.now x.waiting y.waiting r
+
+-- the definition's answer on the pairs that wait, with steps enough
+abbrev pub peels_in : Store → Scratch → List ℕ → Out Made Found
+peels_in s x theta =
+    peels (suc (weighs s.index.now s.words.now s.mark theta x.pairs.now x.waiting)) s.index.now s.words.now s.mark theta x.pairs.now x.waiting
+
+abbrev pub PeeledIn : Store → Store → Scratch → Out Made Found → Result Step Row → Type 0
+PeeledIn s t y K r = PeeledAs s.index.now s.words.now t.index.now t.words.now s.mark t.mark y.memo.now y.pairs.now y.waiting K r
+
+abbrev pub SolvableIn : Store → Scratch → List ℕ → Type 0
+SolvableIn s x theta = Solvable s.index.now s.words.now s.mark theta x.map.now x.memo.now x.pairs.now x.seen.now x.waiting
+
+-- the definition's answer on them, with n rounds
+abbrev pub solves_in : ℕ → Store → Scratch → List ℕ → Out Made (Option (List Binding))
+solves_in n s x theta = solves n s.index.now s.words.now s.mark theta x.pairs.now x.waiting
+
+abbrev pub RoundedIn : Store → Store → Scratch → Scratch → List ℕ → List ℕ → Result (Option Bool) Row → Type 0
+RoundedIn s t x y theta theta' r =
+    Rounded s.index.now s.words.now t.index.now t.words.now s.mark t.mark theta theta' x.map.now x.memo.now x.pairs.now y.pairs.now x.seen.now x.waiting y.waiting r
+
+abbrev pub SolvedIn : Store → Store → List ℕ → Out Made (Option (List Binding)) → Result Bool Row → Type 0
+SolvedIn s t theta' K r = SolvedAs s.index.now s.words.now t.index.now t.words.now s.mark t.mark theta' K r

@@ -6,6 +6,7 @@ use Rattle.rules.specs.Tree.{variables}
 use Rattle.rules.specs.Store.{Made}
 use Rattle.rules.specs.Unify.{Binding}
 use Rattle.terms.specs.declared.store.Mark.{Mark}
+use Rattle.terms.specs.declared.store.Store.{Store}
 use Rattle.unification.specs.declared.unify.Scratch.{Scratch as Tables}
 use Rattle.questions.specs.Numbers.{row_number}
 use Rattle.questions.specs.declared.Row.{Row}
@@ -74,3 +75,12 @@ UnifiedAs I W J X old new theta K (Err row) = Refused (Option (List Binding)) I 
 
 pub record UnifiedBy (I W J X : List ℕ) (old new : Mark) (theta : List ℕ) (K : Out Made (Option (List Binding))) (r : Result Bool Row) : Type 0 where
   pub says : UnifiedAs I W J X old new theta K r
+
+-- As they are lent ---------------------------------------------------------------------------------------------------------------
+
+-- s and t: the store before and after a call; x: the scratch before
+abbrev pub UnifiableIn : Store → Tables → ℕ → ℕ → ℕ → List ℕ → Type 0
+UnifiableIn s x count left right theta = Unifiable s.index.now s.words.now s.mark count left right theta x.map.now x.memo.now x.pairs.now x.seen.now
+
+abbrev pub UnifiedIn : Store → Store → List ℕ → Out Made (Option (List Binding)) → Result Bool Row → Type 0
+UnifiedIn s t theta K r = UnifiedBy s.index.now s.words.now t.index.now t.words.now s.mark t.mark theta K r

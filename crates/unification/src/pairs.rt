@@ -3,16 +3,18 @@
 ghost use Rattle.std.specs.Prelude.{◌≡◌, ◌+◌, ◌*◌, ◌≤◌, ◌<◌, length};
 ghost use Rattle.rules.specs.Limits.{VARIABLES};
 ghost use Rattle.rules.specs.Unify.{bind_or_clash, look};
-ghost use Rattle.terms.specs.Table.{tree};
-ghost use Rattle.unification.specs.Pairs.{Searchable, Comparable, Answered, piled};
+ghost use Rattle.terms.specs.Lent.{tree_made};
+ghost use Rattle.unification.specs.Pairs.{SearchableIn, ComparableIn, AnsweredIn, piled};
 ghost use Rattle.unification.specs.Unify.{SameCells, KeptButPairs};
 
 use crate::unify::Scratch;
-use terms::heads::{Head, head_of};
+use terms::heads::Head;
 use terms::store::Terms;
 use terms::variables::occurs;
 
-// What two terms ask for: nothing, as they are one; no unifier exists; a variable bound to a term; or their arguments, pair by pair.
+// What two terms ask for: nothing, as they are one; no unifier exists; a variable bound to a term; or their arguments, pair by pair. No variant
+// has a `Step`, though three of them are its own: `bind` and `compare` would name both enums at each of their five such returns, for two arms less
+// in `onward`.
 #[derive(Clone, Copy, Debug, PartialEq, Eq)]
 pub enum Asks<'a> {
     Nothing,
@@ -23,8 +25,8 @@ pub enum Asks<'a> {
 
 // The variable `x` is bound to the term `id`, unless it occurs there. `seen` is scratch: zero before and after.
 fn bind<'a>(terms: &Terms<'_>, x: usize, id: usize, seen: &mut [u64]) -> Asks<'a>
-    requires { let t = terms.now in Searchable t.index.now t.words.now t.mark seen.old id × (x < VARIABLES) }
-    ensures answered { let t = terms.now in Answered t.index.now t.words.now t.mark (bind_or_clash x (tree t.index.now t.words.now t.mark id)) result }
+    requires { SearchableIn terms.now seen.old id × (x < VARIABLES) }
+    ensures answered { AnsweredIn terms.now (bind_or_clash x (tree_made terms.now id)) result }
     ensures seen_unchanged { seen.new ≡ seen.old }
 {
     if !occurs(terms, id, x, seen) {
@@ -38,19 +40,19 @@ fn bind<'a>(terms: &Terms<'_>, x: usize, id: usize, seen: &mut [u64]) -> Asks<'a
 
 // What the terms `s` and `t` ask for. `seen` is scratch: zero before and after.
 pub fn compare<'a>(terms: &'a Terms<'_>, s: usize, t: usize, seen: &mut [u64]) -> Asks<'a>
-    requires { let m = terms.now in Comparable m.index.now m.words.now m.mark seen.old s t }
-    ensures answered { let m = terms.now in Answered m.index.now m.words.now m.mark (look (tree m.index.now m.words.now m.mark s) (tree m.index.now m.words.now m.mark t)) result }
+    requires { ComparableIn terms.now seen.old s t }
+    ensures answered { AnsweredIn terms.now (look (tree_made terms.now s) (tree_made terms.now t)) result }
     ensures seen_unchanged { seen.new ≡ seen.old }
 {
     if s == t {
         return Asks::Nothing;
     }
     let left = terms.node(s);
-    if let Head::Variable(x) = head_of(left[0]) {
+    if let Head::Variable(x) = Head::from(left[0]) {
         return bind(terms, x, t, seen);
     }
     let right = terms.node(t);
-    if let Head::Variable(x) = head_of(right[0]) {
+    if let Head::Variable(x) = Head::from(right[0]) {
         return bind(terms, x, s, seen);
     }
     if left[0] != right[0] {

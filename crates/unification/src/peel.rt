@@ -1,11 +1,10 @@
 // Pairs are taken, the last one first, until one binds a variable. Both sides come into the store under the bindings so far; a memo keeps
 // the results, which hold as long as the bindings do.
-ghost use Rattle.std.specs.Prelude.{◌≡◌, suc, ◌<◌};
+ghost use Rattle.std.specs.Prelude.{◌≡◌, ◌<◌};
 ghost use Rattle.rules.specs.Unify.{look};
-ghost use Rattle.terms.specs.Table.{tree};
-ghost use Rattle.terms.specs.Lent.{SameTables};
+ghost use Rattle.terms.specs.Lent.{SameTables, tree_made};
 ghost use Rattle.unification.specs.Unify.{SameCells, KeptButPairs, KeptButMemoAndPairs};
-ghost use Rattle.unification.specs.Peel.{Sideable, Sided, Lookable, Looked, Peelable, weighs, peels, Turned, PeeledAs};
+ghost use Rattle.unification.specs.Peel.{SideableIn, SidedIn, LookableIn, LookedIn, PeelableIn, TurnedIn, peels_in, PeeledIn};
 
 use crate::pairs::{Asks, compare};
 use crate::unify::Scratch;
@@ -31,9 +30,9 @@ fn both_under(
     s: usize,
     t: usize,
 ) -> Result<(usize, usize), Row>
-    requires { let m = store.old in Sideable m.index.now m.words.now m.mark theta.now memo.old s t }
+    requires { SideableIn store.old theta.now memo.old s t }
     ensures same_tables { SameTables store.old store.new }
-    ensures sided { let m = store.old in let n = store.new in Sided m.index.now m.words.now n.index.now n.words.now m.mark n.mark theta.now memo.new s t result }
+    ensures sided { SidedIn store.old store.new theta.now memo.new s t result }
 {
     let left = replace(store, theta, memo, s)?;
     let right = replace(store, theta, memo, t)?;
@@ -42,10 +41,9 @@ fn both_under(
 
 // What the terms `s` and `t` ask for is done. `seen` of the scratch is zero before and after.
 fn onward(terms: &Terms<'_>, s: usize, t: usize, scratch: &mut Scratch<'_>) -> Result<Step, Row>
-    requires { let m = terms.now in let x = scratch.old in Lookable m.index.now m.words.now m.mark x.pairs.now x.seen.now x.waiting s t }
+    requires { LookableIn terms.now scratch.old s t }
     ensures same_cells { SameCells scratch.old scratch.new }
-    ensures looked { let m = terms.now in let x = scratch.old in let y = scratch.new in Looked m.index.now m.words.now m.mark x.pairs.now y.pairs.now x.waiting y.waiting
-        (look (tree m.index.now m.words.now m.mark s) (tree m.index.now m.words.now m.mark t)) result }
+    ensures looked { LookedIn terms.now scratch.old scratch.new (look (tree_made terms.now s) (tree_made terms.now t)) result }
     ensures unchanged { KeptButPairs scratch.old scratch.new }
 {
     match compare(terms, s, t, scratch.seen) {
@@ -64,12 +62,10 @@ fn onward(terms: &Terms<'_>, s: usize, t: usize, scratch: &mut Scratch<'_>) -> R
 
 // The last of the pairs is taken.
 fn take_pair(store: &mut Store<'_>, theta: &[u32], scratch: &mut Scratch<'_>) -> Result<Step, Row>
-    requires { let m = store.old in let x = scratch.old in
-        Peelable m.index.now m.words.now m.mark theta.now x.memo.now x.pairs.now x.seen.now x.waiting × (0 < x.waiting) }
+    requires { PeelableIn store.old scratch.old theta.now × (0 < scratch.old.waiting) }
     ensures same_tables { SameTables store.old store.new }
     ensures same_cells { SameCells scratch.old scratch.new }
-    ensures turned { let m = store.old in let n = store.new in let x = scratch.old in let y = scratch.new in Turned m.index.now m.words.now n.index.now n.words.now m.mark n.mark
-        theta.now y.memo.now x.pairs.now y.pairs.now x.seen.now x.waiting y.waiting result }
+    ensures turned { TurnedIn store.old store.new scratch.old scratch.new theta.now result }
     ensures unchanged { KeptButMemoAndPairs scratch.old scratch.new }
 {
     scratch.waiting -= 1;
@@ -82,12 +78,10 @@ fn take_pair(store: &mut Store<'_>, theta: &[u32], scratch: &mut Scratch<'_>) ->
 
 // Pairs are taken until one binds a variable, or none is left.
 pub fn peel(store: &mut Store<'_>, theta: &[u32], scratch: &mut Scratch<'_>) -> Result<Step, Row>
-    requires { let m = store.old in let x = scratch.old in Peelable m.index.now m.words.now m.mark theta.now x.memo.now x.pairs.now x.seen.now x.waiting }
+    requires { PeelableIn store.old scratch.old theta.now }
     ensures same_tables { SameTables store.old store.new }
     ensures same_cells { SameCells scratch.old scratch.new }
-    ensures peeled_as { let m = store.old in let n = store.new in let x = scratch.old in let y = scratch.new in
-        PeeledAs m.index.now m.words.now n.index.now n.words.now m.mark n.mark y.memo.now y.pairs.now y.waiting
-        (peels (suc (weighs m.index.now m.words.now m.mark theta.now x.pairs.now x.waiting)) m.index.now m.words.now m.mark theta.now x.pairs.now x.waiting) result }
+    ensures peeled_as { PeeledIn store.old store.new scratch.new (peels_in store.old scratch.old theta.now) result }
     ensures unchanged { KeptButMemoAndPairs scratch.old scratch.new }
 {
     // No count: a pair that is taken can put others in its place.

@@ -1,12 +1,11 @@
 // A substitution that grows by one binding after the other, in cells (specs/Theta.antt of `terms` says how they stand for bindings).
 ghost use Rattle.std.specs.Prelude.{◌≡◌};
 ghost use Rattle.rules.specs.Unify.{replace};
-ghost use Rattle.terms.specs.Table.{tree};
-ghost use Rattle.terms.specs.Lent.{SameTables, made_of};
+ghost use Rattle.terms.specs.Lent.{SameTables, made_of, tree_of};
 ghost use Rattle.terms.specs.Subst.{replacement};
 ghost use Rattle.terms.specs.Theta.{bindings};
 ghost use Rattle.unification.specs.Unify.{SameCells, ScratchKept};
-ghost use Rattle.unification.specs.Extend.{in_values, Changeable, ChangedAs, Extendable, Extended};
+ghost use Rattle.unification.specs.Extend.{in_values, ChangeableIn, ChangedIn, ExtendableIn, ExtendedIn};
 
 use crate::unify::Scratch;
 use cells::clear;
@@ -22,17 +21,16 @@ fn replace_values(
     map: &[u32],
     memo: &mut [u32],
 ) -> Result<(), Row>
-    requires { let s = store.old in Changeable s.index.now s.words.now s.mark theta.old map.now memo.old }
+    requires { ChangeableIn store.old theta.old map.now memo.old }
     ensures same_tables { SameTables store.old store.new }
-    ensures changed_as { let s = store.old in let t = store.new in ChangedAs s.index.now s.words.now t.index.now t.words.now s.mark t.mark theta.old theta.new
+    ensures changed_as { let s = store.old in ChangedIn s store.new theta.old theta.new
         (in_values (replacement (made_of s) map.now) (bindings (made_of s) theta.old 0) (made_of s)) result }
 {
     for cell in theta.iter_mut() {
-        let bound = *cell as usize;
-        if bound == 0 {
+        let Some(bound) = (*cell as usize).checked_sub(1) else {
             continue;
-        }
-        let value = replace(store, map, memo, bound - 1)?;
+        };
+        let value = replace(store, map, memo, bound)?;
         *cell = (value + 1) as u32;
     }
     Ok(())
@@ -47,11 +45,11 @@ pub fn extend(
     x: usize,
     u: usize,
 ) -> Result<(), Row>
-    requires { let s = store.old in let w = scratch.old in Extendable s.index.now s.words.now s.mark theta.old w.map.now w.memo.now x u }
+    requires { ExtendableIn store.old scratch.old theta.old x u }
     ensures same_tables { SameTables store.old store.new }
     ensures same_cells { SameCells scratch.old scratch.new }
-    ensures extended { let s = store.old in let t = store.new in Extended s.index.now s.words.now t.index.now t.words.now s.mark t.mark theta.new x u
-        (replace x (tree s.index.now s.words.now s.mark u) (bindings (made_of s) theta.old 0) (made_of s)) result }
+    ensures extended { let s = store.old in ExtendedIn s store.new theta.new x u
+        (replace x (tree_of s u) (bindings (made_of s) theta.old 0) (made_of s)) result }
     ensures scratch_kept { ScratchKept scratch.old scratch.new }
     ensures waiting { scratch.new.waiting ≡ scratch.old.waiting }
 {

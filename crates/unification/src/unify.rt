@@ -1,10 +1,9 @@
 // Unification over the store: a most general replacement that makes two terms equal, one variable bound after the other.
 ghost use Rattle.std.specs.Prelude.{◌≡◌, suc, length, replicate};
 ghost use Rattle.rules.specs.Unify.{unify};
-ghost use Rattle.terms.specs.Table.{tree};
-ghost use Rattle.terms.specs.Lent.{SameTables, made_of};
-ghost use Rattle.unification.specs.Unify.{Unifiable, UnifiedBy, SameScratch, SameCells, ScratchKept, KeptButPairs};
-ghost use Rattle.unification.specs.Peel.{Used, Solvable, Rounded, solves, SolvedAs};
+ghost use Rattle.terms.specs.Lent.{SameTables, made_of, tree_of};
+ghost use Rattle.unification.specs.Unify.{UnifiableIn, UnifiedIn, SameScratch, SameCells, ScratchKept, KeptButPairs};
+ghost use Rattle.unification.specs.Peel.{Used, SolvableIn, RoundedIn, solves_in, SolvedIn};
 
 use crate::peel::{Step, peel};
 use crate::theta::extend;
@@ -12,7 +11,8 @@ use cells::clear;
 use questions::Row;
 use terms::store::Store;
 
-// The tables beside the store and the bindings: zero before and after. `tariff_unify` lends them, of the pairs two of C's cells each.
+// The tables beside the store and the bindings: zero before and after. `tariff_unify` lends them, of the pairs two of C's cells each. What changes
+// the store and the bindings too (`peel`, `extend`, `solve`) is no method here: a receiver would take no argument away.
 #[derive(Drop)]
 pub struct Scratch<'a> {
     pub map: &'a mut [u32],
@@ -32,17 +32,17 @@ fn clear_memo(memo: &mut [u32], used: usize)
 }
 
 // Pairs are taken until one binds a variable, and that comes into the bindings: whether a unifier exists, once that is known. `map`, `memo`
-// and `seen` of the scratch are zero before and after.
+// and `seen` of the scratch are zero before and after. None says that it is not known: `ControlFlow<bool>` would give the same two cases other
+// names, `Break` and `Continue`, in as many lines.
 fn bind_next(
     store: &mut Store<'_>,
     theta: &mut [u32],
     scratch: &mut Scratch<'_>,
 ) -> Result<Option<bool>, Row>
-    requires { let s = store.old in let x = scratch.old in Solvable s.index.now s.words.now s.mark theta.old x.map.now x.memo.now x.pairs.now x.seen.now x.waiting }
+    requires { SolvableIn store.old scratch.old theta.old }
     ensures same_tables { SameTables store.old store.new }
     ensures same_cells { SameCells scratch.old scratch.new }
-    ensures rounded { let s = store.old in let t = store.new in let x = scratch.old in let y = scratch.new in Rounded s.index.now s.words.now t.index.now t.words.now s.mark t.mark theta.old theta.new
-        x.map.now x.memo.now x.pairs.now y.pairs.now x.seen.now x.waiting y.waiting result }
+    ensures rounded { RoundedIn store.old store.new scratch.old scratch.new theta.old theta.new result }
     ensures unchanged { KeptButPairs scratch.old scratch.new }
 {
     let peeled = peel(store, theta, scratch);
@@ -71,11 +71,10 @@ fn solve(
     theta: &mut [u32],
     scratch: &mut Scratch<'_>,
 ) -> Result<bool, Row>
-    requires { let s = store.old in let x = scratch.old in Solvable s.index.now s.words.now s.mark theta.old x.map.now x.memo.now x.pairs.now x.seen.now x.waiting }
+    requires { SolvableIn store.old scratch.old theta.old }
     ensures same_tables { SameTables store.old store.new }
     ensures same_cells { SameCells scratch.old scratch.new }
-    ensures solved_as { let s = store.old in let t = store.new in let x = scratch.old in SolvedAs s.index.now s.words.now t.index.now t.words.now s.mark t.mark theta.new
-        (solves (suc count) s.index.now s.words.now s.mark theta.old x.pairs.now x.waiting) result }
+    ensures solved_as { SolvedIn store.old store.new theta.new (solves_in (suc count) store.old scratch.old theta.old) result }
     ensures unchanged { KeptButPairs scratch.old scratch.new }
 {
     for _round in 0..=count {
@@ -97,10 +96,9 @@ pub fn unify(
     theta: &mut [u32],
     scratch: &mut Scratch<'_>,
 ) -> Result<bool, Row>
-    requires { let m = store.old in let x = scratch.old in Unifiable m.index.now m.words.now m.mark count s t theta.old x.map.now x.memo.now x.pairs.now x.seen.now }
+    requires { UnifiableIn store.old scratch.old count s t theta.old }
     ensures same_tables { SameTables store.old store.new }
-    ensures unified_by { let m = store.old in let n = store.new in UnifiedBy m.index.now m.words.now n.index.now n.words.now m.mark n.mark theta.new
-        (unify count (tree m.index.now m.words.now m.mark s) (tree m.index.now m.words.now m.mark t) (made_of m)) result }
+    ensures unified_by { let m = store.old in UnifiedIn m store.new theta.new (unify count (tree_of m s) (tree_of m t) (made_of m)) result }
     ensures same_scratch { SameScratch scratch.old scratch.new }
     ensures scratch_kept { ScratchKept scratch.old scratch.new }
 {

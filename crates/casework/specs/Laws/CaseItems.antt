@@ -172,9 +172,9 @@ module _ {goals text vars cells : List ℕ} {count' : ℕ} (g : VarsItem goals t
                 pub vars_no_vars : vars_in g.S.vars (item within.items 2) ≡ nothing → (M : Made) → read_case g.S g.x M ≡ refuse 42 0 M
                 vars_no_vars v M = case_no_vars g.S g.x M within.items within.is three p _ name_text.is i (sym index_is ∙ z) v
 
-                pub vars_read : {out : List ℕ} {many end : ℕ} → end ≡ p + length (letters (drop p text)) → VarsRead g.S.vars (item within.items 2) out many →
-                    CaseIs g.S text g.x out (record { from = p; end = end }) i many
-                vars_read {out} {many} {end} e v =
+                pub vars_read : {out : List ℕ} {many : ℕ} → VarsRead g.S.vars (item within.items 2) out many →
+                    CaseIs g.S text g.x out (record { from = p; end = p + length (letters (drop p text)) }) i many
+                vars_read v =
                     record {
                       c = record { name = letters (drop p text); fact = i; vars = v.vars };
                       read = λ M. case_read g.S g.x M within.items within.is three p _ name_text.is i (sym index_is ∙ z) v.vars v.are;
@@ -189,9 +189,9 @@ module _ {goals text vars cells : List ℕ} {count' : ℕ} (g : VarsItem goals t
                       };
                       inside = name_text.inside;
                       whole = refl;
-                      low = omega (arith, e);
-                      high = atom_high text p end name_text.inside e;
-                      bytes = sym (atom_part text p end name_text.inside e);
+                      low = omega arith;
+                      high = atom_high text p _ name_text.inside refl;
+                      bytes = sym (atom_part text p _ name_text.inside refl);
                       number = refl;
                       count = v.count;
                       cells_are = v.cells_are;

@@ -14,7 +14,7 @@ use Rattle.rules.specs.State.{State, Var, Fact, no_var, var_named, is_empty}
 use Rattle.rules.specs.Store.{Made}
 use Rattle.rules.specs.Reference.{hyp_each, hyp_list}
 use Rattle.rules.specs.Read.{others, vars_list}
-use Rattle.rules.specs.Laws.Theory.{All, empty, both, all_snoc}
+use Rattle.rules.specs.Laws.Theory.{All, empty, both, all_snoc, all_map}
 use Rattle.rules.specs.Laws.Find.{first_some}
 use Rattle.rules.specs.Laws.Set.{or_right, rising_from_agree, rising_from_none}
 use Rattle.rules.specs.Laws.Rising.{rising_rises, rising_all_of}
@@ -97,6 +97,11 @@ module _ {n : ℕ} {us : List ℕ} (h : Listing n us) where
   pub listing_few : length us ≤ n
   unfolding rising
   listing_few = let e = once_count n us h.once h.below in let m = rising_few n (has us) in omega arith
+
+  -- they are as many as their set has
+  pub listing_count : (m : ℕ) → n ≤ m → length us ≡ length (rising m (has us))
+  unfolding rising
+  listing_count m l = once_count m us h.once (all_map (λ v p. omega (arith, p, l)) h.below)
 
   pub listing_more : (v : ℕ) → v < n → has us v ≡ false → Listing n (us ++ (v ∷ []))
   listing_more v l e = record { below = all_snoc h.below l; once = once_snoc us v h.once e }

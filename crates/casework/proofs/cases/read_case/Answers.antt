@@ -3,7 +3,7 @@ use native.Mathlib.Omega.{arith}
 use Rattle.std.specs.Prelude.{Err}
 use Rattle.sexp.specs.NthItem.{has_items}
 use Rattle.kernel.proofs.Handed.{handed}
-use Rattle.reading.proofs.Missing.{there, absent, question_is}
+use Rattle.kernel.proofs.Missing.{there, absent, question_is}
 use Rattle.casework.specs.Laws.CaseItems.{vars_atom, vars_count, three, vars_unnamed, name_text, vars_no_index, vars_item, vars_no_vars, vars_read, inner_some, inner_item}
 use Rattle.casework.proofs.Reading.{inner_is, inner_none}
 use Rattle.casework.proofs.cases.read_case.Goals as goal
@@ -54,8 +54,8 @@ returns-in_err-variables c = λ g.
       refl,
     )
 
-pub atom_end-end-requires : goal.atom_end-end-requires
-atom_end-end-requires c = omega (arith, (name_text c.requires (inner_is c.requires _ c.ok_or.ensures.ok_part c.in_ok-inner.was c.list.ensures) c.count.ensures c.if-count-ne3.false c.item_at.ensures c.in-Atom.is).inside)
+pub atom_span-requires : goal.atom_span-requires
+atom_span-requires c = omega (arith, (name_text c.requires (inner_is c.requires _ c.ok_or.ensures.ok_part c.in_ok-inner.was c.list.ensures) c.count.ensures c.if-count-ne3.false c.item_at.ensures c.in-Atom.is).inside)
 
 pub returns : goal.returns
 returns c = λ g.
@@ -63,4 +63,4 @@ returns c = λ g.
     let f = there _ _ c.ok_or-2.ensures.ok_part c.in_ok-fact.was in
     let v = (rw (there _ _ c.ok_or-3.ensures.ok_part c.in_ok-variables.was) at c.vars_list-listed.ensures)
     (vars_item g i c.count.ensures c.if-count-ne3.false c.item_at.ensures c.in-Atom.is c.from.ensures c.index.ensures f c.from-2.ensures) in
-    vars_read g i c.count.ensures c.if-count-ne3.false c.item_at.ensures c.in-Atom.is c.from.ensures c.index.ensures f c.from-2.ensures c.atom_end-end.ensures v
+    rw c.atom_span.ensures (vars_read g i c.count.ensures c.if-count-ne3.false c.item_at.ensures c.in-Atom.is c.from.ensures c.index.ensures f c.from-2.ensures v)

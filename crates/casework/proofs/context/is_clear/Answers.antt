@@ -1,5 +1,4 @@
 use mathlib.Core.Path.{refl, ◌∙◌}
-use native.Mathlib.Omega.{arith}
 use Rattle.terms.specs.Lent.{terms_made}
 use Rattle.terms.specs.Laws.Seen.{seen_none}
 use Rattle.casework.proofs.Clear.{clear_set, clear_is}

@@ -2,8 +2,8 @@ use native.Mathlib.Omega.{arith}
 use mathlib.Core.Path.{ap, ◌∙◌}
 use Rattle.std.specs.Prelude.{Err}
 use Rattle.kernel.proofs.Handed.{handed}
-use Rattle.reading.proofs.Missing.{there, absent, question_is}
-use Rattle.derivation.proofs.Lists.{list_is, list_not}
+use Rattle.kernel.proofs.Missing.{there, absent, question_is}
+use Rattle.reading.specs.Laws.Parts.{list_is, list_not}
 use Rattle.derivation.proofs.Applies.{index_given, index_missing, form_atom_lem, bindings_given, form_given, form_read, form_answers, form_refused}
 use Rattle.derivation.proofs.apply.apply.Goals as goal
 

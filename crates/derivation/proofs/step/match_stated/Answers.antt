@@ -6,8 +6,8 @@ use Rattle.derivation.proofs.step.match_stated.Goals as goal
 pub returns-in_default : goal.returns-in_default
 returns-in_default c = stated_none c.requires (ap counted_from_1 c.in_default.is)
 
-pub match_all-requires : goal.match_all-requires
-match_all-requires c = stated_matchable c.requires (ap counted_from_1 c.in-Some.is)
+pub match_terms-requires : goal.match_terms-requires
+match_terms-requires c = stated_matchable c.requires (ap counted_from_1 c.in-Some.is)
 
 pub returns : goal.returns
-returns c = stated_matched c.requires (ap counted_from_1 c.in-Some.is) c.match_all.ensures
+returns c = rw c.is_some.ensures (stated_matched c.requires (ap counted_from_1 c.in-Some.is) c.match_terms.ensures)

@@ -2,7 +2,7 @@ use Rattle.derivation.proofs.StepForm.{name_held, step_list, step_unnamed, step_
 use mathlib.Core.Path.{ap, ◌∙◌}
 use Rattle.std.specs.Prelude.{Err}
 use Rattle.kernel.proofs.Handed.{handed}
-use Rattle.reading.proofs.Missing.{there, absent, question_is}
+use Rattle.kernel.proofs.Missing.{there, absent, question_is}
 use Rattle.rules.specs.Limits.{PATTERNS}
 use Rattle.referring.specs.Laws.Fronts.{front_room, front_count, back_room, back_count, front_cleared}
 use Rattle.derivation.proofs.StepRule.{by_there, premises_cells}

@@ -4,8 +4,8 @@ use Rattle.sexp.specs.NthItem.{has_items}
 use native.Mathlib.Omega.{arith}
 use mathlib.Core.Path.{ap, ◌∙◌}
 use Rattle.std.specs.Prelude.{Err}
-use Rattle.reading.proofs.Missing.{question_is}
-use Rattle.derivation.proofs.Lists.{list_is, list_not}
+use Rattle.kernel.proofs.Missing.{question_is}
+use Rattle.reading.specs.Laws.Parts.{list_is, list_not}
 use Rattle.derivation.proofs.step.step_by.Goals as goal
 
 pub returns-in_err-inner-clause-derived_as : goal.returns-in_err-inner-clause-derived_as

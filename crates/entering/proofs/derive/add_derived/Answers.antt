@@ -8,8 +8,8 @@ returns-in_err-derived-clause-added c =
     let f = rw c.source_of-source.ensures at c.in_err-derived.ensures.found in
     rw (p.1, p.2) (way_halted c.args.given.now c.args.board.now c.args.store.now c.find.new.store c.args.cells.now c.args.way _ f)
 
-pub put_derived-requires-clause-putting : goal.put_derived-requires-clause-putting
-put_derived-requires-clause-putting c =
+pub put_derived-requires : goal.put_derived-requires
+put_derived-requires c =
     let f = rw c.source_of-source.ensures at c.in_ok-derived.ensures.found in
     way_putting c.args.given.now c.args.board.now c.args.store.now c.find.new.store c.args.cells.now c.args.way _ c.requires.adds f
 

@@ -9,8 +9,8 @@ returns-in_err-found-clause-inverted c =
     let f = rw c.source_of-source.ensures at c.in_err-found.ensures.inverted_as in
     λ x. rw (p.1, p.2) (invert_halted c.args.given.now c.args.board.now c.args.store.now c.invert.new.store c.args.cells.now x c.invert.new.vars _ f)
 
-pub put_derived-requires-clause-putting : goal.put_derived-requires-clause-putting
-put_derived-requires-clause-putting c =
+pub put_derived-requires : goal.put_derived-requires
+put_derived-requires c =
     let f = rw c.source_of-source.ensures at c.in_ok-found.ensures.inverted_as in
     invert_putting c.args.given.now c.args.board.now c.args.store.now c.invert.new.store c.args.cells.now c.requires.adds_inversion c.invert.new.vars c.in_ok-found.found f
 

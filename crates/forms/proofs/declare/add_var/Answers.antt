@@ -2,7 +2,7 @@ use borrow.Author.Tests.{not-true, not-false}
 use mathlib.Core.Path.{refl, ap, ◌∙◌}
 use Rattle.std.specs.Prelude.{Err}
 use Rattle.kernel.proofs.Handed.{handed}
-use Rattle.reading.proofs.Missing.{there, absent, question_is}
+use Rattle.kernel.proofs.Missing.{there, absent, question_is}
 use native.Mathlib.Omega.{arith}
 use Rattle.sexp.specs.AtomText.{atom_high}
 use Rattle.forms.proofs.Variables.{var_no_name, var_name_lem, var_no_sort, var_sort_held, var_sort_missing, var_is_marked, var_is_used, var_no_room, var_fits, var_is_added}
@@ -41,16 +41,16 @@ returns-then-marked-clause-var_as c = λ g. (
   refl,
 )
 
-pub atom_end-end-requires : goal.atom_end-end-requires
-atom_end-end-requires c = omega (arith, (var_name_lem c.requires c.nth.ensures c.in-Atom.is).inside)
+pub atom_span-name-requires : goal.atom_span-name-requires
+atom_span-name-requires c = omega (arith, (var_name_lem c.requires c.nth.ensures c.in-Atom.is).inside)
 
 pub of-requires : goal.of-requires
-of-requires c = (omega (arith, c.atom_end-end.ensures), atom_high _ _ _ (var_name_lem c.requires c.nth.ensures c.in-Atom.is).inside c.atom_end-end.ensures)
+of-requires c = rw c.atom_span-name.ensures (omega arith, atom_high _ _ _ (var_name_lem c.requires c.nth.ensures c.in-Atom.is).inside refl)
 
 pub returns-then-not-is_unused-clause-var_as : goal.returns-then-not-is_unused-clause-var_as
 returns-then-not-is_unused-clause-var_as c = λ g. (
   var_is_used g c.nth.ensures c.in-Atom.is c.from.ensures _ c.head.ensures (there _ _ c.ok_or.ensures.ok_part c.in_ok-own.was) c.named.ensures
-      (there _ _ c.ok_or-2.ensures.ok_part c.in_ok-sort.was) c.marked.ensures c.if-marked.false c.atom_end-end.ensures (rw c.of.ensures at c.is_unused.ensures) _ (not-true _ (ap not c.if-not-is_unused.true)),
+      (there _ _ c.ok_or-2.ensures.ok_part c.in_ok-sort.was) c.marked.ensures c.if-marked.false (rw (c.of.ensures, c.atom_span-name.ensures) at c.is_unused.ensures) _ (not-true _ (ap not c.if-not-is_unused.true)),
   refl,
   refl,
 )
@@ -58,20 +58,21 @@ returns-then-not-is_unused-clause-var_as c = λ g. (
 pub returns-then-board-ge-VARIABLES-clause-var_as : goal.returns-then-board-ge-VARIABLES-clause-var_as
 returns-then-board-ge-VARIABLES-clause-var_as c = λ g. (
   var_no_room g c.nth.ensures c.in-Atom.is c.from.ensures _ c.head.ensures (there _ _ c.ok_or.ensures.ok_part c.in_ok-own.was) c.named.ensures
-      (there _ _ c.ok_or-2.ensures.ok_part c.in_ok-sort.was) c.marked.ensures c.if-marked.false c.atom_end-end.ensures (rw c.of.ensures at c.is_unused.ensures) (not-false _ (ap not c.if-not-is_unused.false))
+      (there _ _ c.ok_or-2.ensures.ok_part c.in_ok-sort.was) c.marked.ensures c.if-marked.false (rw (c.of.ensures, c.atom_span-name.ensures) at c.is_unused.ensures) (not-false _ (ap not c.if-not-is_unused.false))
       _ c.if-board-ge-VARIABLES.true,
   refl,
   refl,
 )
 
 pub put_var-requires : goal.put_var-requires
-put_var-requires c = var_fits c.requires c.nth.ensures c.in-Atom.is c.from.ensures _ c.head.ensures (there _ _ c.ok_or.ensures.ok_part c.in_ok-own.was) c.named.ensures
-    (there _ _ c.ok_or-2.ensures.ok_part c.in_ok-sort.was) c.marked.ensures c.if-marked.false c.atom_end-end.ensures (rw c.of.ensures at c.is_unused.ensures) (not-false _ (ap not c.if-not-is_unused.false)) c.if-board-ge-VARIABLES.false
+put_var-requires c = rw c.atom_span-name.ensures
+    (var_fits c.requires c.nth.ensures c.in-Atom.is c.from.ensures _ c.head.ensures (there _ _ c.ok_or.ensures.ok_part c.in_ok-own.was) c.named.ensures
+    (there _ _ c.ok_or-2.ensures.ok_part c.in_ok-sort.was) c.marked.ensures c.if-marked.false (rw (c.of.ensures, c.atom_span-name.ensures) at c.is_unused.ensures) (not-false _ (ap not c.if-not-is_unused.false)) c.if-board-ge-VARIABLES.false)
 
 pub returns-clause-var_as : goal.returns-clause-var_as
 returns-clause-var_as c = λ g. (
   var_is_added g c.nth.ensures c.in-Atom.is c.from.ensures _ c.head.ensures (there _ _ c.ok_or.ensures.ok_part c.in_ok-own.was) c.named.ensures
-      (there _ _ c.ok_or-2.ensures.ok_part c.in_ok-sort.was) c.marked.ensures c.if-marked.false c.atom_end-end.ensures (rw c.of.ensures at c.is_unused.ensures) (not-false _ (ap not c.if-not-is_unused.false)) _ c.if-board-ge-VARIABLES.false
-      c.put_var.ensures,
+      (there _ _ c.ok_or-2.ensures.ok_part c.in_ok-sort.was) c.marked.ensures c.if-marked.false (rw (c.of.ensures, c.atom_span-name.ensures) at c.is_unused.ensures) (not-false _ (ap not c.if-not-is_unused.false)) _ c.if-board-ge-VARIABLES.false
+      (rw c.atom_span-name.ensures at c.put_var.ensures),
   refl,
 )

@@ -8,7 +8,8 @@ use Rattle.forms.proofs.declare.is_unused.Goals.{then-is_none, else-is_none}
 use Rattle.forms.proofs.declare.is_unused.Goals as goal
 
 pub returns-then-is_none-2 : goal.returns-then-is_none-2
-returns-then-is_none-2 c = λ S inputs h v.
+returns-then-is_none-2 c = λ S k.
+    let (inputs, h, v) = k in
     let x : Bool = is_new (constructor_named S.theory c.args.name.now) in
     let y : Bool = is_new (predicate_named S.theory c.args.name.now) in
     let h' = rw (c.symbol_table-symbols.ensures, c.reader_of-reader.ensures) at c.constructor_named.ensures in
@@ -21,7 +22,8 @@ returns-then-is_none-2 c = λ S inputs h v.
     all_new x y both c.if-is_none-2.true (none_new c.named.result ((rw (c.var_table-vars.ensures, c.reader_of-reader.ensures) at c.named.ensures) S.vars v) c.is_none-then-is_none-2.ensures)
 
 pub returns-else-is_none-2 : goal.returns-else-is_none-2
-returns-else-is_none-2 c = λ S inputs h v.
+returns-else-is_none-2 c = λ S k.
+    let (inputs, h, v) = k in
     let x : Bool = is_new (constructor_named S.theory c.args.name.now) in
     let y : Bool = is_new (predicate_named S.theory c.args.name.now) in
     let h' = rw (c.symbol_table-symbols.ensures, c.reader_of-reader.ensures) at c.constructor_named.ensures in

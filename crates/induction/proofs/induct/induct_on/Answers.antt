@@ -2,7 +2,7 @@ use mathlib.Core.Path.{◌∙◌, ap}
 use native.Mathlib.Omega.{arith}
 use Rattle.std.specs.Prelude.{Err}
 use Rattle.kernel.proofs.Handed.{handed}
-use Rattle.reading.proofs.Missing.{question_is}
+use Rattle.kernel.proofs.Missing.{question_is}
 use Rattle.induction.proofs.InductForms.{form_facts, form_sorts, form_stopped, form_atom_lem, form_list, form_motive, form_refused, form_derived}
 use Rattle.induction.proofs.induct.induct_on.Goals as goal
 

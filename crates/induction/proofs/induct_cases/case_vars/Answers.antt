@@ -1,7 +1,7 @@
 use mathlib.Core.Path.{refl, sym, ap, ◌∙◌}
 use Rattle.std.specs.Prelude.{Err}
 use Rattle.kernel.proofs.Handed.{handed}
-use Rattle.reading.proofs.Missing.{there, absent, question_is}
+use Rattle.kernel.proofs.Missing.{there, absent, question_is}
 use native.Mathlib.Omega.{arith}
 use Rattle.sexp.specs.Each.{here}
 use Rattle.induction.proofs.CaseNames.{names_start, names_done, names_place, names_given, names_unknown, names_variable, names_sort_asks, names_used, names_seen, names_other, names_taken, names_twice, names_again}

@@ -3,7 +3,7 @@ use native.Mathlib.Omega.{arith}
 use borrow.Author.Tests.{eqb-true, eqb-false}
 use Rattle.std.specs.Prelude.{Err}
 use Rattle.kernel.proofs.Handed.{handed}
-use Rattle.reading.proofs.Missing.{there, absent, question_is}
+use Rattle.kernel.proofs.Missing.{there, absent, question_is}
 use Rattle.induction.proofs.CaseReads.{case_atom_lem, case_list, case_items, case_none, case_first, case_unread, many_few, case_count, inputs_known, named, case_unnamed, case_read}
 use Rattle.induction.proofs.induct_cases.read_case.Goals as goal
 

@@ -9,7 +9,7 @@ use Rattle.inversion.proofs.InvertForms.{form_naming, form_unnamed, form_fact, f
 use Rattle.inversion.proofs.invert.invert.Goals as goal
 
 pub hypothesis-requires : goal.hypothesis-requires
-hypothesis-requires c = (form_naming c.requires.inverts_form, refl)
+hypothesis-requires c = form_naming c.requires.inverts_form
 
 pub returns-in_err-fact-clause-inverted_as : goal.returns-in_err-fact-clause-inverted_as
 returns-in_err-fact-clause-inverted_as c = λ g. let p = err_from_is_err_and c.from_residual.result c.from_residual.ensures.1 in
@@ -63,3 +63,9 @@ returns-clause-inverted_as c = λ g.
     let e = form_front g h (omega arith) (replicate FACTS 0) (length-replicate {A = ℕ} FACTS 0) c.write_out-many.ensures in
     let z = c.in_ok-invert_on.ensures.inverted_on_as (form_on g h j c.judgment-2.ensures e) in
     (form_read g h j c.judgment-2.ensures e z c.insert.ensures refl, refl)
+
+pub write_out-many-requires-clause-set_len_bound : goal.write_out-many-requires-clause-set_len_bound
+write_out-many-requires-clause-set_len_bound c = omega arith
+
+pub slice_bounds-write_out-end : goal.slice_bounds-write_out-end
+slice_bounds-write_out-end c = omega arith

@@ -1,3 +1,4 @@
+use native.Mathlib.Omega.{arith}
 use mathlib.Core.Path.{refl, ◌∙◌}
 use Rattle.std.proofs.lemmas.Result.{err_from_is_err_and}
 use Rattle.terms.specs.Laws.Answers.{after_term, after_full}
@@ -14,6 +15,9 @@ keep_var-requires c = (c.loop-k.invariant.0.on.grown.good, c.requires.1 c.loop-k
 pub returns-in_err-term-clause-kept_as : goal.returns-in_err-term-clause-kept_as
 returns-in_err-term-clause-kept_as c = let p = err_from_is_err_and c.from_residual.result c.from_residual.ensures.1 in
     rw (p.1, p.2) (vars_full c.loop-k.invariant.0 c.requires.2 c.loop-k-test.true (after_full c.keep_var.ensures.kept c.in_err-term.was))
+
+pub overflow_cast-bound : goal.overflow_cast-bound
+overflow_cast-bound c = let s = after_term c.keep_var.ensures.kept c.in_ok-term.was in omega (arith, s.there, s.grown.good.room)
 
 pub loop-k-preserved : goal.loop-k-preserved
 loop-k-preserved c = (

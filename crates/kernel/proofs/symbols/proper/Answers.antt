@@ -1,4 +1,4 @@
-use mathlib.Core.Path.{sym, ◌∙◌}
+use mathlib.Core.Path.{refl, sym, ◌∙◌}
 use Rattle.sexp.specs.FirstItem.{atom_inside}
 use Rattle.kernel.proofs.Spellings.{proper_marked, proper_name_lem, proper_list}
 use Rattle.kernel.proofs.symbols.proper.Goals as goal
@@ -13,4 +13,4 @@ pub returns-then-marked : goal.returns-then-marked
 returns-then-marked c = λ x at e s. proper_marked c.args.text.now c.in-Atom.is x at e s (sym c.marked.ensures ∙ c.if-marked.true)
 
 pub returns : goal.returns
-returns c = λ x at e s. proper_name_lem c.args.text.now c.in-Atom.is x at e s (sym c.marked.ensures ∙ c.if-marked.false) _ c.atom_end-end.ensures
+returns c = λ x at e s. rw c.atom_span.ensures (proper_name_lem c.args.text.now c.in-Atom.is x at e s (sym c.marked.ensures ∙ c.if-marked.false) _ refl)

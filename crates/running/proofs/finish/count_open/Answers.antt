@@ -17,8 +17,8 @@ count-requires-clause-can c = (
 
 pub returns : goal.returns
 returns c = λ g.
-    let n = c.args.count in
+    let n = c.args.goals.now.count in
     count_from_yields_List c.filter.result _ c.count.ensures.ran
-    (YieldsList-from_filter _ (row_open c.args.rows.now c.args.terms.now) (YieldsList-from_range 0 n n c.filter.ensures.source (omega arith)) c.filter.ensures.closure
+    (YieldsList-from_filter _ (row_open c.args.goals.now.rows.now c.args.terms.now) (YieldsList-from_range 0 n n c.filter.ensures.source (omega arith)) c.filter.ensures.closure
     (λ x r q k. search (rules, tests)))
     ∙ rows_open c.args.terms.now g

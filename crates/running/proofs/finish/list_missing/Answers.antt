@@ -31,34 +31,34 @@ loop-entry-init-derived c =
 
 pub overflow_add-missing : goal.overflow_add-missing
 overflow_add-missing c =
-    let t = turned c.args.rows.now c.args.count _ _ c.loop-entry.yielded c.loop-entry.yielded_by c.into_iter-entry-iterator.ensures.into_iter_gives c.enumerate-entry-items.ensures.source c.enumerate-entry-items.ensures.count
+    let t = turned c.args.goals.now.rows.now c.args.goals.now.count _ _ c.loop-entry.yielded c.loop-entry.yielded_by c.into_iter-entry-iterator.ensures.into_iter_gives c.enumerate-entry-items.ensures.source c.enumerate-entry-items.ensures.count
     c.filter.ensures.source c.filter.ensures.closure (λ x b q k. search (rules, tests)) _ _ _ c.in-Some.is c.next.ensures.steps in
     omega (arith, t.2, c.requires.0.held.few)
 
 pub overflow_cast-missing : goal.overflow_cast-missing
 overflow_cast-missing c =
-    let t = turned c.args.rows.now c.args.count _ _ c.loop-entry.yielded c.loop-entry.yielded_by c.into_iter-entry-iterator.ensures.into_iter_gives c.enumerate-entry-items.ensures.source c.enumerate-entry-items.ensures.count
+    let t = turned c.args.goals.now.rows.now c.args.goals.now.count _ _ c.loop-entry.yielded c.loop-entry.yielded_by c.into_iter-entry-iterator.ensures.into_iter_gives c.enumerate-entry-items.ensures.source c.enumerate-entry-items.ensures.count
     c.filter.ensures.source c.filter.ensures.closure (λ x b q k. search (rules, tests)) _ _ _ c.in-Some.is c.next.ensures.steps in
     omega (arith, t.2, c.requires.0.held.few)
 
 pub offset_bounds-missing-entry : goal.offset_bounds-missing-entry
 offset_bounds-missing-entry c =
-    let t = turned c.args.rows.now c.args.count _ _ c.loop-entry.yielded c.loop-entry.yielded_by c.into_iter-entry-iterator.ensures.into_iter_gives c.enumerate-entry-items.ensures.source c.enumerate-entry-items.ensures.count
+    let t = turned c.args.goals.now.rows.now c.args.goals.now.count _ _ c.loop-entry.yielded c.loop-entry.yielded_by c.into_iter-entry-iterator.ensures.into_iter_gives c.enumerate-entry-items.ensures.source c.enumerate-entry-items.ensures.count
     c.filter.ensures.source c.filter.ensures.closure (λ x b q k. search (rules, tests)) _ _ _ c.in-Some.is c.next.ensures.steps in
     omega (arith, t.1, c.requires.0.held.few)
 
 pub bounds-missing-entry : goal.bounds-missing-entry
 bounds-missing-entry c =
-    let t = turned c.args.rows.now c.args.count _ _ c.loop-entry.yielded c.loop-entry.yielded_by c.into_iter-entry-iterator.ensures.into_iter_gives c.enumerate-entry-items.ensures.source c.enumerate-entry-items.ensures.count
+    let t = turned c.args.goals.now.rows.now c.args.goals.now.count _ _ c.loop-entry.yielded c.loop-entry.yielded_by c.into_iter-entry-iterator.ensures.into_iter_gives c.enumerate-entry-items.ensures.source c.enumerate-entry-items.ensures.count
     c.filter.ensures.source c.filter.ensures.closure (λ x b q k. search (rules, tests)) _ _ _ c.in-Some.is c.next.ensures.steps in
     omega (arith, t.1, c.requires.0.held.few, long _ _ c.loop-entry.invariant)
 
 pub loop-entry-preserved : goal.loop-entry-preserved
 loop-entry-preserved c =
-    listed c.args.rows.now c.args.count _ _ c.loop-entry.yielded c.loop-entry.yielded_by c.into_iter-entry-iterator.ensures.into_iter_gives c.enumerate-entry-items.ensures.source c.enumerate-entry-items.ensures.count
+    listed c.args.goals.now.rows.now c.args.goals.now.count _ _ c.loop-entry.yielded c.loop-entry.yielded_by c.into_iter-entry-iterator.ensures.into_iter_gives c.enumerate-entry-items.ensures.source c.enumerate-entry-items.ensures.count
     c.filter.ensures.source c.filter.ensures.closure (λ x b q k. search (rules, tests)) _ _ _ c.in-Some.is c.next.ensures.steps c.requires.0.held.few c.loop-entry.invariant
 
 pub returns : goal.returns
 returns c = λ g.
-    listed_all c.args.rows.now c.args.count _ _ c.loop-entry.yielded c.loop-entry.yielded_by c.into_iter-entry-iterator.ensures.into_iter_gives c.enumerate-entry-items.ensures.source c.enumerate-entry-items.ensures.count
+    listed_all c.args.goals.now.rows.now c.args.goals.now.count _ _ c.loop-entry.yielded c.loop-entry.yielded_by c.into_iter-entry-iterator.ensures.into_iter_gives c.enumerate-entry-items.ensures.source c.enumerate-entry-items.ensures.count
     c.filter.ensures.source c.filter.ensures.closure (λ x b q k. search (rules, tests)) _ _ c.in-None.is c.next.ensures.steps c.loop-entry.invariant g

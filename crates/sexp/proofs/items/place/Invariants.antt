@@ -4,4 +4,4 @@ use Rattle.sexp.proofs.Tallies.{Seeks}
 use Rattle.sexp.proofs.items.place.Given as goal
 
 abbrev pub invariant-loop-k : goal.invariant-loop-k
-invariant-loop-k l = (left : ℕ) × (l._k + left ≡ l.number) × Seeks l.words l.number l.at left
+invariant-loop-k l = (l.items.cells.now ≡ l.words) × (left : ℕ) × (l._k + left ≡ l.number) × Seeks l.words l.number l.items.at left

@@ -1,10 +1,10 @@
-use Prim.Native.Nat.{◌-◌}
-use lib.ListN.{length}
+use mathlib.Core.Path.{◌≡◌}
 use Rattle.sexp.proofs.Turns.{Turning}
 use Rattle.sexp.proofs.sexp.read_all.Given as goal
 
-abbrev pub invariant-loop-at : goal.invariant-loop-at
-invariant-loop-at l = Turning l.text l.at l.depth l.forms
-
-abbrev pub decreases-loop-at : goal.decreases-loop-at
-decreases-loop-at l = length l.text - l.at
+abbrev pub invariant-loop-token : goal.invariant-loop-token
+invariant-loop-token l =
+    record {
+      text : l.token-iterator.text.now ≡ l.text;
+      turning : Turning l.text l.token-iterator.at l.depth l.forms;
+    }

@@ -7,7 +7,7 @@ use Rattle.forms.specs.Laws.Nexts.{hyps, rule_hyps, inverts}
 use mathlib.Core.Path.{ap, ◌∙◌}
 use Rattle.std.specs.Prelude.{Err}
 use Rattle.kernel.proofs.Handed.{handed}
-use Rattle.reading.proofs.Missing.{there, absent, question_is}
+use Rattle.kernel.proofs.Missing.{there, absent, question_is}
 use Rattle.entering.specs.declared.derive.Way.TheVariants as way
 use Rattle.entering.specs.Laws.Inverting.{stands_inversion}
 use Rattle.taking.proofs.Heads.{told, untold}

@@ -1,7 +1,7 @@
 use mathlib.Core.Path.{refl, ap, ◌∙◌}
 use Rattle.std.specs.Prelude.{Err}
 use Rattle.kernel.proofs.Handed.{handed}
-use Rattle.reading.proofs.Missing.{there, absent, question_is}
+use Rattle.kernel.proofs.Missing.{there, absent, question_is}
 use Rattle.rules.specs.Tags.{a_variable, a_goal, a_goal_with}
 use Rattle.sexp.specs.declared.tags.GoalForm.TheVariants.{Variable, Goal, GoalWith}
 use Rattle.forms.specs.Laws.Declared.{gives_var}

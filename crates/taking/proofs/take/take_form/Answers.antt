@@ -1,13 +1,12 @@
 use mathlib.Core.Path.{sym, ap, ◌∙◌, subst}
 use Rattle.std.specs.Prelude.{Ok, Err}
 use Rattle.kernel.proofs.Handed.{handed}
-use Rattle.reading.proofs.Missing.{there, absent, question_is}
+use Rattle.kernel.proofs.Missing.{there, absent, question_is}
 use Rattle.sexp.specs.Each.{first_atom, first_list}
 use Rattle.questions.specs.declared.Question.TheVariants.{ProofForm}
 use Rattle.taking.specs.Taking.{TakenIn}
-use Rattle.forms.proofs.Erring.{err_of, ok_of}
 use Rattle.taking.proofs.Heads.{form_atom_lem, form_takes}
-use Rattle.taking.proofs.Ends.{left_part, left_back, never_tried}
+use Rattle.taking.proofs.Ends.{err_of, ok_of, left_part, left_back, never_tried}
 use Rattle.taking.proofs.take.take_form.Goals as goal
 use Rattle.kernel.proofs.Tagged.{alone}
 

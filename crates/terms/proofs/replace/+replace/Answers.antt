@@ -1,12 +1,13 @@
-use Rattle.std.proofs.Common.{sym, ◌∙◌, refl, arith}
+use Rattle.std.proofs.Common.{sym, ◌∙◌, refl}
+use native.Mathlib.Omega.{arith}
 use Rattle.std.proofs.lemmas.Result.{err_from_is_err_and}
 use Rattle.terms.specs.Laws.Terms.{start_in}
 use Rattle.terms.proofs.Substs.{sub_known, sub_none, sub_var}
 use Rattle.terms.proofs.SubstLoop.{looping_begins, arg_in, arg_falls, arg_ready, arm_ok, arm_err, rebuildable, rebuilt_shaped, end_err, end_ok}
 use Rattle.terms.proofs.replace.+replace.Goals as goal
 
-pub returns-then-known-ne0-clause-substituted : goal.returns-then-known-ne0-clause-substituted
-returns-then-known-ne0-clause-substituted t c = sub_known _ _ _ _ _ _ c.requires c.if-known-ne0.true
+pub returns-in-Some-clause-substituted : goal.returns-in-Some-clause-substituted
+returns-in-Some-clause-substituted t c = let some = c.in-Some.ensures.0 in rw c.in-Some.ensures.1 (sub_known _ _ _ _ _ _ c.requires (λ z. omega arith))
 
 pub returns-then-not-is_open-clause-substituted : goal.returns-then-not-is_open-clause-substituted
 returns-then-not-is_open-clause-substituted t c =
@@ -33,7 +34,7 @@ returns-in-Variable-clause-substituted t c = sub_var _ _ _ _ _ _ c.requires _ _ 
 pub loop-at-init : goal.loop-at-init
 loop-at-init t c = record {
   tables = (refl, refl);
-  looping = rw c.terms-terms.ensures (looping_begins _ _ _ _ _ _ _ c.requires (rw c.terms-terms.ensures at c.start_of-start.ensures) (rw c.terms-terms.ensures at c.in_default.ensures.1));
+  looping = rw c.terms-terms.ensures (looping_begins _ _ _ _ _ _ _ c.requires (rw c.terms-terms.ensures at c.start_of-start.ensures) (rw c.terms-terms.ensures at c.in_default-from.ensures.1));
 }
 
 pub bounds-store-at : goal.bounds-store-at

@@ -1,12 +1,9 @@
-use mathlib.Core.Path.{refl}
-use Rattle.terms.proofs.Gathers.{image_none, image_some, image_out}
+use Rattle.std.proofs.Common.{◌∙◌}
+use Rattle.terms.proofs.Gathers.{image_found, image_out}
 use Rattle.terms.proofs.replace.image_of.Goals as goal
 
-pub returns-then-map-v : goal.returns-then-map-v
-returns-then-map-v c = image_out _ _ _ c.if-map-v.true
+pub returns-in_default : goal.returns-in_default
+returns-in_default c = image_out _ _ _ c.in_default.ensures.lookup.3
 
-pub returns-then-bound-eq0 : goal.returns-then-bound-eq0
-returns-then-bound-eq0 c = image_none _ _ _ _ refl c.if-bound-eq0.true
-
-pub returns-else-bound-eq0 : goal.returns-else-bound-eq0
-returns-else-bound-eq0 c = image_some _ _ _ c.if-bound-eq0.false
+pub returns : goal.returns
+returns c = c.unwrap_or.ensures ∙ image_found _ _ _ _ _ (c.in-Some.ensures.lookup.3.1 0) c.checked_sub.ensures

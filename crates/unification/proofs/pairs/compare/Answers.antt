@@ -16,19 +16,19 @@ returns-in-Variable-clause-answered c = left_binds _ _ _ _ _ _ c.requires c.if-s
 pub bounds-right-0 : goal.bounds-right-0
 bounds-right-0 c = right_some _ _ _ _ _ _ c.requires c.if-s-t.false _ c.node-left.ensures c.in_default.ensures.1 _ c.node-right.ensures
 
-pub bind-requires-in-Variable-head_of : goal.bind-requires-in-Variable-head_of
-bind-requires-in-Variable-head_of c = rw c.in-Variable-head_of.ensures.0 (right_asks _ _ _ _ _ _ c.requires c.if-s-t.false _ c.node-left.ensures c.in_default.ensures.1 _ c.node-right.ensures c.in-Variable-head_of.ensures.1)
+pub bind-requires-in-Variable-from : goal.bind-requires-in-Variable-from
+bind-requires-in-Variable-from c = rw c.in-Variable-from.ensures.0 (right_asks _ _ _ _ _ _ c.requires c.if-s-t.false _ c.node-left.ensures c.in_default.ensures.1 _ c.node-right.ensures c.in-Variable-from.ensures.1)
 
-pub returns-in-Variable-head_of-clause-answered : goal.returns-in-Variable-head_of-clause-answered
-returns-in-Variable-head_of-clause-answered c = right_binds _ _ _ _ _ _ c.requires c.if-s-t.false _ c.node-left.ensures c.in_default.ensures.1 _ c.node-right.ensures c.in-Variable-head_of.ensures.1 c.bind-in-Variable-head_of.result
-    (rw c.in-Variable-head_of.ensures.0 at c.bind-in-Variable-head_of.ensures.answered)
+pub returns-in-Variable-from-clause-answered : goal.returns-in-Variable-from-clause-answered
+returns-in-Variable-from-clause-answered c = right_binds _ _ _ _ _ _ c.requires c.if-s-t.false _ c.node-left.ensures c.in_default.ensures.1 _ c.node-right.ensures c.in-Variable-from.ensures.1 c.bind-in-Variable-from.result
+    (rw c.in-Variable-from.ensures.0 at c.bind-in-Variable-from.ensures.answered)
 
 pub returns-then-left-right-clause-answered : goal.returns-then-left-right-clause-answered
-returns-then-left-right-clause-answered c = heads_clash _ _ _ _ _ _ c.requires c.if-s-t.false _ c.node-left.ensures c.in_default.ensures.1 _ c.node-right.ensures c.in_default-head_of.ensures.1 c.if-left-right.true
+returns-then-left-right-clause-answered c = heads_clash _ _ _ _ _ _ c.requires c.if-s-t.false _ c.node-left.ensures c.in_default.ensures.1 _ c.node-right.ensures c.in_default-from.ensures.1 c.if-left-right.true
 
 pub returns-then-left-right-2-clause-answered : goal.returns-then-left-right-2-clause-answered
-returns-then-left-right-2-clause-answered c = counts_clash _ _ _ _ _ _ c.requires c.if-s-t.false _ c.node-left.ensures c.in_default.ensures.1 _ c.node-right.ensures c.in_default-head_of.ensures.1 c.if-left-right.false
+returns-then-left-right-2-clause-answered c = counts_clash _ _ _ _ _ _ c.requires c.if-s-t.false _ c.node-left.ensures c.in_default.ensures.1 _ c.node-right.ensures c.in_default-from.ensures.1 c.if-left-right.false
     c.if-left-right-2.true
 
 pub returns-clause-answered : goal.returns-clause-answered
-returns-clause-answered c = parts_are _ _ _ _ _ _ c.requires c.if-s-t.false _ c.node-left.ensures c.in_default.ensures.1 _ c.node-right.ensures c.in_default-head_of.ensures.1 c.if-left-right.false c.if-left-right-2.false
+returns-clause-answered c = parts_are _ _ _ _ _ _ c.requires c.if-s-t.false _ c.node-left.ensures c.in_default.ensures.1 _ c.node-right.ensures c.in_default-from.ensures.1 c.if-left-right.false c.if-left-right-2.false

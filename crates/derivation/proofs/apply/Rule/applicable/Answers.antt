@@ -3,7 +3,7 @@ use mathlib.Core.Path.{sym, ◌∙◌}
 use Rattle.derivation.proofs.apply.Rule.applicable.Goals as goal
 
 pub is_assumed-requires : goal.is_assumed-requires
-is_assumed-requires c = rule_asks c.requires.0
+is_assumed-requires c = rule_asks c.requires
 
 pub returns-then-binds_general : goal.returns-then-binds_general
 returns-then-binds_general c = λ g M. usable_assumed g.S _ _ _ (assumed_is g c.is_assumed.ensures c.if-is_assumed.true)

@@ -5,8 +5,8 @@ use Rattle.std.proofs.lemmas.Result.{err_from_is_err_and}
 use Rattle.kernel.proofs.Handed.{handed}
 use Rattle.std.specs.Prelude.{Err}
 use Rattle.sexp.specs.NthItem.{has_items}
-use Rattle.reading.proofs.Missing.{question_is}
-use Rattle.derivation.proofs.Lists.{list_is, list_not}
+use Rattle.kernel.proofs.Missing.{question_is}
+use Rattle.reading.specs.Laws.Parts.{list_is, list_not}
 use Rattle.derivation.proofs.Applies.{rule_late, rule_fact, rule_unfit, rule_atom, rule_other, rule_replaceable, rule_full, rule_given, rule_there, rule_answers}
 use Rattle.derivation.proofs.Meeting.{blank_memo}
 use Rattle.derivation.proofs.RuleFacts.{rule_asks}
@@ -16,11 +16,7 @@ pub returns-then-not-is_fact-clause-derived_as : goal.returns-then-not-is_fact-c
 returns-then-not-is_fact-clause-derived_as c = λ g. rule_late g c.requires.theta.0 _ c.is_fact.ensures (ap not c.if-not-is_fact.true)
 
 pub applicable-requires : goal.applicable-requires
-applicable-requires c = rw c.facts-facts.ensures (
-  rule_fact c.requires.reads c.requires.theta.0 _ c.is_fact.ensures
-      (ap not c.if-not-is_fact.false),
-  c.requires.theta.0.long,
-)
+applicable-requires c = rw c.facts-facts.ensures (rule_fact c.requires.reads c.requires.theta.0 _ c.is_fact.ensures (ap not c.if-not-is_fact.false))
 
 pub returns-in_err-applicable-clause-derived_as : goal.returns-in_err-applicable-clause-derived_as
 returns-in_err-applicable-clause-derived_as c = λ g. rw (handed c.from_residual.result c.from_residual.ensures)

@@ -16,7 +16,7 @@ invariant-loop-k l =
       cells : l.k-iterator.iter.cells.now ≡ l.cells;
       tables : SameTables s t;
       memo : l.memo ≡ replicate TERMS 0;
-      left : (g : UsesRule l.source s l.self.fact l.cells l.self.bound.now) →
+      left : (g : UsesRule l.source s l.self l.cells) →
           Left (source_names l.source) (fact_rows l.source.records.now) (fact_feet l.source.records.now) l.source.lists.now l.source.reader.n s.index.now s.words.now s.mark
           l.self.fact l.cells l.self.bound.now
           g.S g.xs t.index.now t.words.now t.mark l.support.hyps l.support.footing l.used l.seen l.k-iterator.count l.k-iterator.iter.at;

@@ -1,9 +1,9 @@
 use native.Mathlib.Omega.{arith}
 use mathlib.Core.Path.{refl, sym, ap, ◌∙◌}
 use Rattle.std.specs.Prelude.{Err}
-use Rattle.reading.proofs.Missing.{there, absent, question_is}
+use Rattle.kernel.proofs.Missing.{there, absent, question_is}
 use Rattle.kernel.proofs.Handed.{handed}
-use Rattle.derivation.proofs.OneItem.{bind_names, bind_unnamed, bind_known, bind_small, bind_twice, bind_done, bind_refused, said_cell, said_bound, some_stated, none_stated}
+use Rattle.derivation.proofs.OneItem.{bind_names, bind_unnamed, bind_known, bind_small, bind_fits, bind_twice, bind_done, bind_refused, said_cell, said_bound, some_stated, none_stated}
 use Rattle.derivation.proofs.items.Said.bind_item.Goals as goal
 
 pub rule_var_named-requires : goal.rule_var_named-requires
@@ -43,6 +43,13 @@ returns-then-is_some-clause-item_as c = λ g.
 
 pub bounds-self-i-2 : goal.bounds-self-i-2
 bounds-self-i-2 c = bind_small c.requires.0 c.variables-count.ensures c.args.start c.atom-name.ensures c.rule_var_named.ensures (there _ _ c.ok_or.ensures.ok_part c.in_ok-i.was)
+
+pub overflow_cast-self : goal.overflow_cast-self
+overflow_cast-self c = omega (
+  arith,
+  bind_fits c.requires.0 c.variables-count.ensures c.args.start c.atom-name.ensures c.rule_var_named.ensures (there _ _ c.ok_or.ensures.ok_part c.in_ok-i.was) c.variable_sort.ensures
+      c.in_ok-term.ensures.read_as,
+)
 
 pub returns-clause-item_as : goal.returns-clause-item_as
 returns-clause-item_as c = λ g.

@@ -1,8 +1,8 @@
 use mathlib.Core.Path.{refl, ap, ◌∙◌}
 use Rattle.std.specs.Prelude.{Err}
 use Rattle.kernel.proofs.Handed.{handed}
-use Rattle.reading.proofs.Missing.{question_is}
-use Rattle.derivation.proofs.Lists.{first_is, first_not}
+use Rattle.kernel.proofs.Missing.{question_is}
+use Rattle.reading.specs.Laws.Parts.{first_is, first_not}
 use Rattle.derivation.proofs.OneItem.{none_there, some_there, item_atom_lem, item_empty_lem, item_nested, binds_given, item_given, item_bound, item_stated}
 use Rattle.derivation.proofs.items.Said.read_item.Goals as goal
 

@@ -34,9 +34,8 @@ pub insert_all-requires : goal.insert_all-requires
 insert_all-requires c = case_words c.requires c.in_ok-case.ensures c.args.taken.now (omega arith)
 
 pub write-requires : goal.write-requires
-write-requires c = case_short c.requires c.in_ok-case.ensures c.suits.ensures
-    (ap not c.if-not-suits.false) c.args.list.now (omega arith)
+write-requires c = omega (arith, case_short c.requires c.in_ok-case.ensures c.suits.ensures (ap not c.if-not-suits.false))
 
 pub returns : goal.returns
 returns c = λ g. case_new g c.in_ok-case.ensures c.suits.ensures
-    (ap not c.if-not-suits.false) c.args.taken.now c.none_in.ensures c.args.list.now (ap not c.if-not-none_in.false) c.insert_all.ensures c.write.ensures
+    (ap not c.if-not-suits.false) c.args.taken.now c.none_in.ensures _ (ap not c.if-not-none_in.false) c.insert_all.ensures c.write.ensures

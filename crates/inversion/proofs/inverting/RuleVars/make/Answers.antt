@@ -1,12 +1,13 @@
 use mathlib.Core.Path.{refl, ◌∙◌}
-use lib.ListN.{length-set}
+use lib.ListN.{length-set, length-replicate}
+use Rattle.rules.specs.Limits.{RULEVARS}
 use native.Mathlib.Omega.{arith}
 use Rattle.inversion.proofs.InvertNames.{known_var, rule_sort_lem, sort_small, making_start, making_over, making_full, making_more}
 use Prim.Native.Nat.{ℕ, ◌+◌}
 use Rattle.inversion.proofs.inverting.RuleVars.make.Goals as goal
 
 pub loop-k-init : goal.loop-k-init
-loop-k-init c = (omega arith, omega (arith, c.requires.3), refl, refl, c.requires.2, refl, λ g vs l. making_start vs _ _ _ _)
+loop-k-init c = (omega arith, omega (arith, c.requires.3), refl, refl, c.requires.2, length-replicate {A = ℕ} RULEVARS 0, λ g vs l. making_start vs _ _ _ _)
 
 pub returns-then-v-ge-VARIABLES-clause-made_as : goal.returns-then-v-ge-VARIABLES-clause-made_as
 returns-then-v-ge-VARIABLES-clause-made_as c = λ g vs l. making_full (c.loop-k.invariant.6 g vs l) (omega (arith, l)) c.loop-k.invariant.4 refl

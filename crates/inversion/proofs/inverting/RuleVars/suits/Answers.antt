@@ -22,8 +22,8 @@ all-requires-clause-callable c =
 
 pub returns-then-list-self : goal.returns-then-list-self
 returns-then-list-self c = λ g vs count h.
-    suit_is g h c.args.list.now c.if-list-self.true c.all.result
-    (cases_from_all _ _ _ (Says c.args.self.now.rules.vars.now c.args.vars.now c.args.self.now.rule true) (Says c.args.self.now.rules.vars.now c.args.vars.now c.args.self.now.rule false) c.all.ensures.ran
+    suit_is c.args.self.now.rules g h c.args.list.now c.if-list-self.true c.all.result
+    (cases_from_all _ _ _ (Says c.args.self.now.rules c.args.vars.now c.args.self.now.rule true) (Says c.args.self.now.rules c.args.vars.now c.args.self.now.rule false) c.all.ensures.ran
     (YieldsList-from_enumerate (YieldsList-from_slice c.args.list.now cc) cc) (λ x q k. (search (rules, tests), search (rules, tests)))
     (λ x q k. search (rules, tests)))
 

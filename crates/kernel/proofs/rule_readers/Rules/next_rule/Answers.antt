@@ -1,7 +1,7 @@
 use Rattle.std.proofs.Common.{rules, tests, ◌≡◌, ◌≤◌, length, Option, MatchOption, true, false, Bool, ℕ, ◌<◌}
 use Rattle.std.proofs.lemmas.Iterator.{first_from_Range, serves_from_Range}
 use Rattle.rules.specs.Theory.{Theory, no_rule, rule, head_is}
-use Rattle.kernel.specs.Readers.{FormedRules}
+use Rattle.kernel.specs.Lent.{FormedIn}
 use Rattle.kernel.specs.Listing.{next_rule}
 use Rattle.kernel.specs.Entries.{formed_rule}
 use Rattle.sexp.specs.FoundLaws.{first_is}
@@ -22,7 +22,7 @@ found T p from many Yes No a b r m = first_is (λ u. head_is p u.conclusion) T.r
 pub returns : goal.returns
 returns c = λ T f.
     let Says : Bool → ℕ → Type 0
-    = λ b k. (T : Theory) (n : ℕ) → FormedRules c.args.symbols.now c.args.self.now.rows.now c.args.self.now.patterns.now n T → k < n
+    = λ b k. (T : Theory) (n : ℕ) → FormedIn c.args.symbols.now c.args.self.now n T → k < n
     → head_is c.args.predicate (rule T k).conclusion ≡ b in
     found T c.args.predicate c.args.from f.held.many (Says true) (Says false)
     (λ k l e. e T _ f l) (λ k l e. e T _ f l) c.find.result

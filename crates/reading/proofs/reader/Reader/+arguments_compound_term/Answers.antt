@@ -4,13 +4,14 @@ use native.Mathlib.Omega.{arith}
 use Rattle.std.proofs.lemmas.Result.{err_from_is_err_and}
 use Rattle.terms.specs.On.{pure_stopped}
 use Rattle.sexp.specs.Each.{here, over}
-use Rattle.reading.proofs.TermArguments.{known_symbol, symbol_small, going_begins, going_inputs, going_high, going_item, going_stops, going_put, going_on, going_misfits, going_ends, part_most}
+use Rattle.sexp.specs.NthItem.{has_items}
+use Rattle.reading.proofs.TermArguments.{known_symbol, symbol_small, going_begins, going_inputs, going_high, going_item, going_stops, going_put, going_at, going_items, going_misfits, going_ends, part_most}
 use Rattle.reading.proofs.TermHeads.{rest_fewer}
 use Rattle.reading.proofs.TermBehind.{opens, rest_items, behind_stops, behind_narrow, behind_length, behind_node, behind_typed}
 use Rattle.reading.specs.Laws.Walks.{first_some}
 use Rattle.reading.proofs.TermItems.{atom_given, term_atomic, item_list, item_part, list_items, term_compounds}
 use Rattle.reading.proofs.reader.Reader.+arguments_compound_term.Goals as goal
-use Rattle.reading.proofs.reader.Reader.+arguments_compound_term.Goals.{arguments-then-not-fits-via-then-not-fits, arguments-then-not-fits-via-else-not-fits+then-k-count}
+use Rattle.reading.proofs.reader.Reader.+arguments_compound_term.Goals.{arguments-then-not-fits-via-then-not-fits, arguments-then-not-fits-via-else-not-fits+then-count}
 
 pub arguments-arity-count-requires : goal.arguments-arity-count-requires
 arguments-arity-count-requires t c = rw c.symbol_table-known.ensures (known_symbol c.requires.0.reads c.requires.1)
@@ -18,8 +19,8 @@ arguments-arity-count-requires t c = rw c.symbol_table-known.ensures (known_symb
 pub arguments-put_head-requires : goal.arguments-put_head-requires
 arguments-put_head-requires t c = (c.requires.2, symbol_small c.requires.0.reads c.requires.1)
 
-pub arguments-loop-item-init : goal.arguments-loop-item-init
-arguments-loop-item-init t c = rw (c.into_iter-item-iterator.ensures.into_iter_gives, c.all-item-items.ensures.0, c.all-item-items.ensures.1) record {
+pub arguments-loop-k-init : goal.arguments-loop-k-init
+arguments-loop-k-init t c = rw (c.into_iter-k-iterator.ensures.into_iter_gives, c.enumerate-k-items.ensures.source, c.enumerate-k-items.ensures.count, c.all.ensures.0, c.all.ensures.1) record {
   cells = refl;
   same = (refl, refl);
   going = λ g. going_begins g.reads g.holds c.args.c c.arity-count.result _ c.args.node.now c.requires.1 c.requires.2 c.put_head.ensures
@@ -27,45 +28,48 @@ arguments-loop-item-init t c = rw (c.into_iter-item-iterator.ensures.into_iter_g
 }
 
 pub arguments-takes-fits-requires : goal.arguments-takes-fits-requires
-arguments-takes-fits-requires t c = rw c.symbol_table-known.ensures (going_inputs (c.loop-item.invariant.going c.requires.0))
+arguments-takes-fits-requires t c = rw (c.symbol_table-known.ensures, c.in-Some.ensures.steps.1) (going_inputs (c.loop-k.invariant.going c.requires.0))
 
 pub arguments-term-requires : goal.arguments-term-requires
 arguments-term-requires t c =
-    let h = here c.loop-item.invariant.cells c.in-Some.ensures.steps in
-    (omega (arith, part_most h, c.decreases), going_item (c.loop-item.invariant.going c.requires.0) h)
+    let h = here c.loop-k.invariant.cells c.in-Some.ensures.steps.0 in
+    (omega (arith, part_most h, c.decreases), going_item (c.loop-k.invariant.going c.requires.0) h)
 
 pub arguments-returns-in_err-typed-clause-arguments_as : goal.arguments-returns-in_err-typed-clause-arguments_as
 arguments-returns-in_err-typed-clause-arguments_as t c = λ g. let p = err_from_is_err_and c.from_residual.result c.from_residual.ensures.1 in
-    rw (p.1, p.2) (going_stops (c.loop-item.invariant.going g) (here c.loop-item.invariant.cells c.in-Some.ensures.steps) c.in_err-typed.ensures.typed_as)
+    rw (p.1, p.2) (going_stops (c.loop-k.invariant.going g) (here c.loop-k.invariant.cells c.in-Some.ensures.steps.0) c.in_err-typed.ensures.typed_as)
 
 pub arguments-put_argument-requires : goal.arguments-put_argument-requires
-arguments-put_argument-requires t c = going_put (c.loop-item.invariant.going c.requires.0) (here c.loop-item.invariant.cells c.in-Some.ensures.steps) c.in_ok-typed.ensures.typed_as
+arguments-put_argument-requires t c = going_put (c.loop-k.invariant.going c.requires.0) (here c.loop-k.invariant.cells c.in-Some.ensures.steps.0) c.in_ok-typed.ensures.typed_as
 
-pub arguments-overflow_add-k : goal.arguments-overflow_add-k
-arguments-overflow_add-k t c = omega (arith, going_high (c.loop-item.invariant.going c.requires.0), c.well_formed.1.1.0)
-
-pub arguments-loop-item-preserved : goal.arguments-loop-item-preserved
-arguments-loop-item-preserved t c =
-    let h = here c.loop-item.invariant.cells c.in-Some.ensures.steps in
-    record {
+pub arguments-loop-k-preserved : goal.arguments-loop-k-preserved
+arguments-loop-k-preserved t c =
+    let h = here c.loop-k.invariant.cells c.in-Some.ensures.steps.0 in
+    rw c.in-Some.ensures.steps.2 record {
       cells = h.same;
-      same = (c.term.ensures.same_tables.0 ∙ c.loop-item.invariant.same.0, c.term.ensures.same_tables.1 ∙ c.loop-item.invariant.same.1);
-      going = λ g. going_on (c.loop-item.invariant.going g) h c.in_ok-typed.ensures.typed_as c.put_argument.new.node c.put_argument.ensures
-          ((rw c.symbol_table-known.ensures at c.takes-fits.ensures) g.S.theory _ _ _ (c.loop-item.invariant.going g).reads.spelling.held (c.loop-item.invariant.going g).known (c.loop-item.invariant.going g).counted) refl;
+      same = (c.term.ensures.same_tables.0 ∙ c.loop-k.invariant.same.0, c.term.ensures.same_tables.1 ∙ c.loop-k.invariant.same.1);
+      going = λ g. going_at (c.loop-k.invariant.going g) h c.in_ok-typed.ensures.typed_as c.put_argument.new.node c.in-Some.ensures.steps.1 c.put_argument.ensures
+          ((rw c.symbol_table-known.ensures at c.takes-fits.ensures) g.S.theory _ _ _ (c.loop-k.invariant.going g).reads.spelling.held (c.loop-k.invariant.going g).known (c.loop-k.invariant.going g).counted) refl;
     }
 
+pub arguments-count-requires : goal.arguments-count-requires
+arguments-count-requires t c = has_items c.requires.0.holds
+
 pub arguments-overflow_add-result : goal.arguments-overflow_add-result
-arguments-overflow_add-result t c = omega (arith, going_high (c.loop-item.invariant.going c.requires.0), c.well_formed.1.1.0)
+arguments-overflow_add-result t c =
+    let g = c.loop-k.invariant.going c.requires.0 in
+    omega (arith, going_high g, going_items g (over c.loop-k.invariant.cells c.in-None.ensures.steps.0) (c.count.ensures c.requires.0.xs c.requires.0.holds.cells), c.if-count.false, c.well_formed.1.1.0)
 
 pub arguments-returns-then-not-fits-clause-arguments_as : goal.arguments-returns-then-not-fits-clause-arguments_as
-arguments-returns-then-not-fits-clause-arguments_as t c = λ g. going_misfits (c.loop-item.invariant.going g) (omega (arith, (over c.loop-item.invariant.cells c.in-None.ensures.steps)))
+arguments-returns-then-not-fits-clause-arguments_as t c = λ g. going_misfits (c.loop-k.invariant.going g) (over c.loop-k.invariant.cells c.in-None.ensures.steps.0)
     (λ f e. elim c.then-not-fits.branch [
       | arguments-then-not-fits-via-then-not-fits w ↦ true≢false (sym f ∙ w.if-not-fits.true)
-      | arguments-then-not-fits-via-else-not-fits+then-k-count w ↦ w.if-k-count.true e
+      | arguments-then-not-fits-via-else-not-fits+then-count w ↦ w.if-count.true (going_items (c.loop-k.invariant.going g) (over c.loop-k.invariant.cells c.in-None.ensures.steps.0) (w.count.ensures g.xs g.holds.cells) ∙ e)
     ])
 
 pub arguments-returns-clause-arguments_as : goal.arguments-returns-clause-arguments_as
-arguments-returns-clause-arguments_as t c = λ g. going_ends (c.loop-item.invariant.going g) (omega (arith, (over c.loop-item.invariant.cells c.in-None.ensures.steps))) c.if-not-fits.false c.if-k-count.false
+arguments-returns-clause-arguments_as t c = λ g. going_ends (c.loop-k.invariant.going g) (over c.loop-k.invariant.cells c.in-None.ensures.steps.0)
+    (c.count.ensures g.xs g.holds.cells) c.if-not-fits.false c.if-count.false
 
 pub compound-returns-in_err-c-clause-typed_as : goal.compound-returns-in_err-c-clause-typed_as
 compound-returns-in_err-c-clause-typed_as t c = λ g. let p = err_from_is_err_and c.from_residual.result c.from_residual.ensures.1 in

@@ -1,5 +1,4 @@
 use native.Mathlib.Omega.{arith}
-use Rattle.reading.specs.Laws.Reading.{reads_defs, reads_names}
 use Rattle.reading.proofs.TermItems.{atom_abbreviates, atom_names}
 use Rattle.reading.proofs.reader.Reader.atomic.Goals as goal
 

@@ -20,7 +20,7 @@ returns-in_err-pair-clause-bindings_as c =
 pub bounds-map-pair : goal.bounds-map-pair
 bounds-map-pair c =
     let h = here c.loop-item.invariant.cells c.in-Some.ensures.steps in
-    left_small (c.loop-item.invariant.binds c.requires.reads_items) h _ _ _ c.binding.ensures.pair_as c.in_ok-pair.was
+    omega (arith, left_small (c.loop-item.invariant.binds c.requires.reads_items) h _ _ _ c.binding.ensures.pair_as c.in_ok-pair.was, (c.loop-item.invariant.binds c.requires.reads_items).theta.long)
 
 pub returns-then-map-pair-ne0-clause-bindings_as : goal.returns-then-map-pair-ne0-clause-bindings_as
 returns-then-map-pair-ne0-clause-bindings_as c =
@@ -62,4 +62,4 @@ offset_bounds-map-pair-in-loop-item c =
 pub bounds-map-pair-in-loop-item : goal.bounds-map-pair-in-loop-item
 bounds-map-pair-in-loop-item c =
     let h = here c.loop-item.invariant.cells c.in-Some.ensures.steps in
-    left_small (c.loop-item.invariant.binds c.requires.reads_items) h _ _ _ c.binding.ensures.pair_as c.in_ok-pair.was
+    omega (arith, left_small (c.loop-item.invariant.binds c.requires.reads_items) h _ _ _ c.binding.ensures.pair_as c.in_ok-pair.was, (c.loop-item.invariant.binds c.requires.reads_items).theta.long)

@@ -6,14 +6,14 @@ use Rattle.reading.specs.Given.{ReadsItems}
 use Rattle.reading.proofs.Judgments.{Judging}
 use Rattle.reading.proofs.reader.Reader.judgment_each.Given as goal
 
-abbrev pub invariant-loop-item : goal.invariant-loop-item
-invariant-loop-item l =
+abbrev pub invariant-loop-k : goal.invariant-loop-k
+invariant-loop-k l =
     let s = l.initial.store in
     let t = l.store in
     record {
-      cells : l.item-iterator.cells.now ≡ l.cells;
+      cells : l.k-iterator.iter.cells.now ≡ l.cells;
       tables : SameTables s t;
       long : length l.out ≡ length l.initial.out;
       judging : (g : ReadsItems (names_of l.self) l.self.n s.index.now s.words.now s.mark l.cells) →
-          Judging (names_of l.self) l.self.n s.index.now s.words.now s.mark g.S g.xs l.cells t.index.now t.words.now l.out t.mark l.k l.item-iterator.at;
+          Judging (names_of l.self) l.self.n s.index.now s.words.now s.mark g.S g.xs l.cells t.index.now t.words.now l.out t.mark l.k-iterator.count l.k-iterator.iter.at;
     }

@@ -2,7 +2,7 @@ use mathlib.Core.Path.{ap, ◌∙◌}
 use Rattle.std.specs.Prelude.{Err}
 use Rattle.kernel.proofs.Handed.{handed}
 use Rattle.kernel.proofs.Missing.{there, absent, question_is}
-use Rattle.reading.proofs.TermHeads.{symbols_named, judgment_nameless, judgment_told}
+use Rattle.reading.proofs.TermHeads.{judgment_nameless, judgment_told}
 use Rattle.reading.proofs.reader.Reader.predicate_first.Goals as goal
 
 pub head-requires : goal.head-requires

@@ -1,13 +1,10 @@
 use native.Mathlib.Omega.{arith}
 use Rattle.referring.specs.Laws.Refers.{fact_asks}
-use Rattle.referring.proofs.Parts.{part_end, part_fits}
+use Rattle.referring.proofs.Parts.{part_lies}
 use Rattle.referring.proofs.source.Facts.premises.Goals as goal
 
-pub premises-from-requires : goal.premises-from-requires
-premises-from-requires c = fact_asks c.requires.1.recorded c.requires.1.there
+pub premises-requires : goal.premises-requires
+premises-requires c = fact_asks c.requires.1.recorded c.requires.1.there
 
-pub offset_bounds-self-from : goal.offset_bounds-self-from
-offset_bounds-self-from c = omega (arith, part_fits c.requires.1 c.premises-from.ensures (omega arith))
-
-pub slice_bounds-result-end : goal.slice_bounds-result-end
-slice_bounds-result-end c = part_end c.requires.1 c.premises-from.ensures (omega arith)
+pub of-requires : goal.of-requires
+of-requires c = part_lies c.requires.1 c.premises.ensures (omega arith) (omega arith)

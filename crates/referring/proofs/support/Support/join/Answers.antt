@@ -3,7 +3,7 @@ use Rattle.referring.proofs.Joins.{join_asks, hyps_below, hyps_join, none_join, 
 use Rattle.referring.proofs.support.Support.join.Goals as goal
 
 pub join_footing-requires : goal.join_footing-requires
-join_footing-requires c = join_asks c.requires _ (omega arith)
+join_footing-requires c = join_asks c.requires
 
 pub insert_all-requires : goal.insert_all-requires
 insert_all-requires c = hyps_below c.requires c.hyps.ensures _ (omega arith)

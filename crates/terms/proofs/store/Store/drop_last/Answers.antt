@@ -8,14 +8,14 @@ unlink-requires c = last_unlinks c.args.self.now.index.now c.args.self.now.words
 pub offset_bounds-self-start : goal.offset_bounds-self-start
 offset_bounds-self-start c = omega (arith, last_fits c.args.self.now.index.now c.args.self.now.words.now c.args.self.now.mark c.requires _ (rw c.terms-terms.ensures at c.start_of-start.ensures))
 
-pub slice_bounds-fill-count : goal.slice_bounds-fill-count
-slice_bounds-fill-count c = omega (arith, last_fits c.args.self.now.index.now c.args.self.now.words.now c.args.self.now.mark c.requires _ (rw c.terms-terms.ensures at c.start_of-start.ensures))
+pub slice_bounds-clear-count : goal.slice_bounds-clear-count
+slice_bounds-clear-count c = omega (arith, last_fits c.args.self.now.index.now c.args.self.now.words.now c.args.self.now.mark c.requires _ (rw c.terms-terms.ensures at c.start_of-start.ensures))
 
-pub slice_bounds-fill-start : goal.slice_bounds-fill-start
-slice_bounds-fill-start c = omega (arith, last_fits c.args.self.now.index.now c.args.self.now.words.now c.args.self.now.mark c.requires _ (rw c.terms-terms.ensures at c.start_of-start.ensures))
+pub slice_bounds-clear-start : goal.slice_bounds-clear-start
+slice_bounds-clear-start c = omega (arith, last_fits c.args.self.now.index.now c.args.self.now.words.now c.args.self.now.mark c.requires _ (rw c.terms-terms.ensures at c.start_of-start.ensures))
 
 pub returns-clause-back : goal.returns-clause-back
-returns-clause-back c = last_gone c.args.self.now.index.now c.args.self.now.words.now c.args.self.now.mark c.requires _ (rw c.terms-terms.ensures at c.start_of-start.ensures) _ (rw c.terms-terms.ensures at (rw c.node.ensures at c.bucket_of-bucket.ensures)) _ c.unlink.ensures _ (c.fill.ensures.after (λ y e. e))
+returns-clause-back c = last_gone c.args.self.now.index.now c.args.self.now.words.now c.args.self.now.mark c.requires _ (rw c.terms-terms.ensures at c.start_of-start.ensures) _ (rw c.terms-terms.ensures at (rw c.node.ensures at c.bucket_of-bucket.ensures)) _ c.unlink.ensures _ c.clear.ensures
 
 pub returns-clause-mark : goal.returns-clause-mark
 returns-clause-mark c = omega (arith, last_fits c.args.self.now.index.now c.args.self.now.words.now c.args.self.now.mark c.requires _ (rw c.terms-terms.ensures at c.start_of-start.ensures))

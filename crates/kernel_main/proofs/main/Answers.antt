@@ -1,7 +1,0 @@
-use Rattle.std.proofs.Common.{arith}
-use Rattle.kernel_main.proofs.Words.{words_fit}
-use Rattle.kernel_main.proofs.main.Goals as goal
-
-pub show_tables-requires : goal.show_tables-requires
-show_tables-requires c =
-    words_fit _ c.parse.ensures.laid_held c.parse.ensures.held c.parse.ensures.patterns_after (omega (arith, c.deref_mut-6.ensures.len, c.in_ok-patterns.ensures.len))
