@@ -156,12 +156,14 @@ PartRead cells s t given r = PatternRead cells s.known.text.now t.vars.now t.cou
 
 -- Heads --------------------------------------------------------------------------------------------------------------------------
 
-pub record Heading (text symbols inputs : List ℕ) (count room : ℕ) : Type 0 where
+-- what the reader of a symbol is given: so many symbols, whatever stands in the table of their inputs
+pub record Heading (text symbols : List ℕ) (count room : ℕ) : Type 0 where
+  pub inputs : List ℕ
   pub held : SomeSymbolsHeld text symbols inputs count
   pub long : room ≡ PATTERNS
 
 abbrev pub HeadAt : RuleReader → Type 0
-HeadAt s = Heading s.known.text.now s.known.rows.now s.known.inputs.now s.known.count (length s.patterns.now)
+HeadAt s = Heading s.known.text.now s.known.rows.now s.known.count (length s.patterns.now)
 
 -- a symbol with so many arguments, and its word
 pub record Head (before after : List ℕ) (used : ℕ) (T : Theory) (R : Reading) (arity : ℕ) (given : Out Reading ℕ) (c next : ℕ) : Type 0 where

@@ -4,12 +4,12 @@ ghost use Rattle.rules.specs.Text.{same};
 ghost use Rattle.rules.specs.Find.{first};
 ghost use Rattle.rules.specs.Lex.{letters};
 ghost use Rattle.rules.specs.Sexp.{Name, atom};
-ghost use Rattle.rules.specs.Theory.{Theory};
 ghost use Rattle.rules.specs.Declare.{Reading, met_or_new, variable, head, pattern};
 ghost use Rattle.rules.specs.Laws.PatternSteps.{var_named};
 ghost use Rattle.rules.specs.TheoryTables.{prefix};
 ghost use Rattle.kernel.specs.Reading.{WordFits, SameTables, SameVars, SameWords, WordAdded, VarsMet, NamesMet, SomeNamesMet, MeetingAt, MetBy};
-ghost use Rattle.kernel.specs.Reading.{Knows, ReadTo, AtomAt, PartRead, HeadAt, HeadBy};
+ghost use Rattle.kernel.specs.Reading.{ReadTo, AtomAt, PartRead, HeadAt, HeadBy};
+ghost use Rattle.kernel.specs.Lent.{OfNames};
 ghost use Rattle.kernel.specs.Spelled.{StandsAt};
 
 use crate::atoms::{marked, put_span};
@@ -103,8 +103,8 @@ impl RuleReader<'_, '_> {
         requires { HeadAt self.old }
         ensures same_tables { SameTables self.old self.new }
         ensures same_vars { SameVars self.old self.new }
-        ensures head { (T : Theory) (R : Reading) → Knows self.old.known T.symbols → R.words ≡ self.old.used →
-            HeadBy self.old self.new T R arity (head T sort arity name.now R) result }
+        ensures head { OfNames self.old.known (λ T. (R : Reading) → R.words ≡ self.old.used →
+            HeadBy self.old self.new T R arity (head T sort arity name.now R) result) }
     {
         let known = self.known;
         let c = known.constructor_named(name).ok_or(Question::Declared)?;
@@ -125,8 +125,8 @@ impl RuleReader<'_, '_> {
         requires atom { AtomAt self.old start sort }
         requires head { HeadAt self.old }
         ensures same_tables { SameTables self.old self.new }
-        ensures read { (T : Theory) (R : Reading) → Knows self.old.known T.symbols → ReadTo self.old R →
-            PartRead prefix self.old self.new (pattern T (atom start (letters (drop start self.old.known.text.now))) sort R) result }
+        ensures read { OfNames self.old.known (λ T. (R : Reading) → ReadTo self.old R →
+            PartRead prefix self.old self.new (pattern T (atom start (letters (drop start self.old.known.text.now))) sort R) result) }
     {
         let text = self.known.text;
         if marked(text, start) {

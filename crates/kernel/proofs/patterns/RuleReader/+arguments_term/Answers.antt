@@ -70,7 +70,7 @@ term-atomic-requires-clause-atom t c =
     }
 
 pub term-atomic-requires-clause-head : goal.term-atomic-requires-clause-head
-term-atomic-requires-clause-head t c = record { held = c.requires.part.held; long = c.requires.part.long }
+term-atomic-requires-clause-head t c = record { inputs = _; held = c.requires.part.held; long = c.requires.part.long }
 
 pub term-offset_bounds-cells-a : goal.term-offset_bounds-cells-a
 term-offset_bounds-cells-a t c =
@@ -120,7 +120,7 @@ term-arguments-requires t c =
 pub term-returns-in-Atom-clause-read : goal.term-returns-in-Atom-clause-read
 term-returns-in-Atom-clause-read t c = λ T R x ys h r k.
     rw (cons_first x _ ys _ (atom_first k (λ z. omega (arith, z, c.requires.cells_nonzero.0)) c.item_at.ensures c.in-Atom.is).is)
-    (c.atomic.ensures.read T R h r)
+    (c.atomic.ensures.read T _ h R r)
 
 pub term-returns-in_ok-c-in-List-clause-read : goal.term-returns-in_ok-c-in-List-clause-read
 term-returns-in_ok-c-in-List-clause-read t c = λ T R x ys h r k.

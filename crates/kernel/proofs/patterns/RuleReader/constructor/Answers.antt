@@ -8,10 +8,10 @@ use Rattle.kernel.proofs.Words.{head_missing, head_wrong_sort, head_wrong_count,
 use Rattle.kernel.proofs.patterns.RuleReader.constructor.Goals as goal
 
 pub constructor_named-requires : goal.constructor_named-requires
-constructor_named-requires c = (c.args.self.now.known.inputs.now, c.requires.held)
+constructor_named-requires c = (c.requires.inputs, c.requires.held)
 
 pub returns-in_err-c-clause-head : goal.returns-in_err-c-clause-head
-returns-in_err-c-clause-head c = λ T R h w.
+returns-in_err-c-clause-head c = λ T ins h R w.
     rw (handed c.from_residual.result c.from_residual.ensures ∙ ap Err (question_is _ _ c.ok_or.ensures.ok_part c.ok_or.ensures.value c.in_err-c.was))
     (head_missing _ c.args.sort c.args.arity T R h _ (c.constructor_named.ensures T _ h) (absent _ _ c.ok_or.ensures.ok_part c.in_err-c.was))
 
@@ -20,7 +20,7 @@ output-output-requires c = let held = c.requires.held in
     constructor_known (symbolic held.0) _ _ _ held.1 (there _ _ c.ok_or.ensures.ok_part c.in_ok-c.was) (c.constructor_named.ensures (symbolic held.0) _ held.1)
 
 pub returns-then-output-sort-clause-head : goal.returns-then-output-sort-clause-head
-returns-then-output-sort-clause-head c = λ T R h w.
+returns-then-output-sort-clause-head c = λ T ins h R w.
     head_wrong_sort _ c.args.sort c.args.arity T R h _ (c.constructor_named.ensures T _ h) _ (there _ _ c.ok_or.ensures.ok_part c.in_ok-c.was) _ c.output-output.ensures c.if-output-sort.true
 
 pub arity-many-requires : goal.arity-many-requires
@@ -28,7 +28,7 @@ arity-many-requires c = let held = c.requires.held in
     constructor_known (symbolic held.0) _ _ _ held.1 (there _ _ c.ok_or.ensures.ok_part c.in_ok-c.was) (c.constructor_named.ensures (symbolic held.0) _ held.1)
 
 pub returns-then-many-arity-clause-head : goal.returns-then-many-arity-clause-head
-returns-then-many-arity-clause-head c = λ T R h w.
+returns-then-many-arity-clause-head c = λ T ins h R w.
     head_wrong_count _ c.args.sort c.args.arity T R h _ (c.constructor_named.ensures T _ h) _ (there _ _ c.ok_or.ensures.ok_part c.in_ok-c.was) _ c.output-output.ensures c.if-output-sort.false _
     c.arity-many.ensures c.if-many-arity.true
 
@@ -39,11 +39,11 @@ word-requires c = let held = c.requires.held in record {
 }
 
 pub returns-in_err-word-clause-head : goal.returns-in_err-word-clause-head
-returns-in_err-word-clause-head c = λ T R h w. rw (handed c.from_residual-in_err-word.result c.from_residual-in_err-word.ensures)
+returns-in_err-word-clause-head c = λ T ins h R w. rw (handed c.from_residual-in_err-word.result c.from_residual-in_err-word.ensures)
     (head_full _ c.args.sort c.args.arity T R h _ (c.constructor_named.ensures T _ h) _ (there _ _ c.ok_or.ensures.ok_part c.in_ok-c.was) _ c.output-output.ensures c.if-output-sort.false _
     c.arity-many.ensures c.if-many-arity.false _ _ w c.in_err-word.ensures.put)
 
 pub returns-clause-head : goal.returns-clause-head
-returns-clause-head c = λ T R h w.
+returns-clause-head c = λ T ins h R w.
     head_written _ c.args.sort c.args.arity T R h _ (c.constructor_named.ensures T _ h) _ (there _ _ c.ok_or.ensures.ok_part c.in_ok-c.was) _ c.output-output.ensures c.if-output-sort.false _
     c.arity-many.ensures c.if-many-arity.false _ _ w c.requires.long c.in_ok-word.ensures.put

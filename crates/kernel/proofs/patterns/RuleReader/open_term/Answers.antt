@@ -22,9 +22,9 @@ returns-then-many-lt2-clause-opened c = λ T R zs h w k.
     term_lone T R c.args.sort _ _ (name_first zs k (rw (there _ _ c.ok_or.ensures.ok_part c.in_ok-name.was) at (c.head.ensures zs k)).1) _ (c.count-many.ensures zs k.cells) c.if-many-lt2.true
 
 pub constructor-requires : goal.constructor-requires
-constructor-requires c = record { held = c.requires.held; long = c.requires.long }
+constructor-requires c = record { inputs = _; held = c.requires.held; long = c.requires.long }
 
 pub returns-clause-opened : goal.returns-clause-opened
 returns-clause-opened c = λ T R zs h w k. term_opened T R c.args.sort c.args.self.now.patterns.now c.args.self.now.used
     (name_first zs k (rw (there _ _ c.ok_or.ensures.ok_part c.in_ok-name.was) at (c.head.ensures zs k)).1) c.count-many.result (c.count-many.ensures zs k.cells) c.if-many-lt2.false
-    _ _ c.constructor.result (c.constructor.ensures.head T R h w)
+    _ _ c.constructor.result (c.constructor.ensures.head T _ h R w)
