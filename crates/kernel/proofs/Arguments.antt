@@ -23,6 +23,7 @@ use Rattle.sexp.specs.Items.{Holds, Held, item_of, item_at, behind}
 use Rattle.sexp.specs.Spelt.{Spelt}
 use Rattle.sexp.specs.WalkLaws.{Walk, walk_start, walk_over, AtomIs}
 use Rattle.sexp.specs.Each.{Here, ListOf}
+use Rattle.sexp.specs.NameRows.{NameRows}
 use Rattle.sexp.specs.declared.items.Each.{Each}
 use Rattle.sexp.specs.declared.items.Item.{Item}
 use Rattle.kernel.specs.Held.{SortsHeld, SomeSorts, ArgumentsRead}
@@ -31,7 +32,7 @@ use Rattle.questions.specs.declared.Question.TheVariants.{Declared, Room}
 use Rattle.questions.specs.declared.Row.TheVariants.{Arguments}
 use Rattle.questions.specs.Numbers.{number_of, detail_of}
 use Rattle.sexp.specs.Never.{never}
-use Rattle.kernel.specs.SignatureRows.{sorts_few}
+use Rattle.kernel.specs.SignatureRows.{sorts_rows, sorts_few}
 use Rattle.sexp.specs.FirstItem.{SomeItem, ItemFirst, some_first, first_count}
 use Rattle.kernel.proofs.Spellings.{sorted}
 use Rattle.kernel.proofs.Turns.{turn_holds, turn_some, turn_first, turn_rest}
@@ -39,7 +40,7 @@ use Rattle.kernel.proofs.Turns.{turn_holds, turn_some, turn_first, turn_rest}
 -- what `sort` ensures
 abbrev pub SortTold : List ℕ → List ℕ → ℕ → Item → Result ℕ Question → Type 0
 SortTold text sorts known item r =
-    (x : Sexp) (at : ℕ) → item ≡ item_of at x → Spelt text x → (ns : List Name) → SortsHeld text sorts known ns → r ≡ ok_or (sort_of ns x) Declared
+    (x : Sexp) (at : ℕ) → item ≡ item_of at x → Spelt text x → (ns : List Name) → NameRows text sorts 2 0 known ns → r ≡ ok_or (sort_of ns x) Declared
 
 -- what its answer says
 sort_there : (o : Option ℕ) {r : Result ℕ Question} {s : ℕ} → r ≡ ok_or o Declared → r ≡ Ok s → o ≡ some s
@@ -71,14 +72,14 @@ module _ {text sorts : List ℕ} {known : ℕ} {item : Item} {r : Result ℕ Que
   pub sort_small : (s : ℕ) → r ≡ Ok s → SomeSorts text sorts known → (x : Sexp) (at : ℕ) → item ≡ item_of at x → Spelt text x → s ≤ SORTS
   unfolding sort_of
   sort_small s a h x at e k =
-      omega (arith, sort_inside h.0 (proper x) s (sort_there (sort_of h.0 x) (told x at e k h.0 h.1) a), h.1.many, sorts_few h.1)
+      omega (arith, sort_inside h.0 (proper x) s (sort_there (sort_of h.0 x) (told x at e k h.0 (sorts_rows h.1)) a), h.1.many, sorts_few h.1)
 
   module _ (T : Theory) (h : SortsHeld text sorts known T.sorts) (x : Sexp) (at : ℕ) (e : item ≡ item_of at x) (k : Spelt text x) where
     pub sort_known : (s : ℕ) → r ≡ Ok s → sort_of T.sorts x ≡ some s
-    sort_known s a = sort_there (sort_of T.sorts x) (told x at e k T.sorts h) a
+    sort_known s a = sort_there (sort_of T.sorts x) (told x at e k T.sorts (sorts_rows h)) a
 
     pub sort_unknown : {q : Question} → r ≡ Err q → Sortless T.sorts x q
-    sort_unknown a = sort_nowhere T.sorts x (told x at e k T.sorts h) a
+    sort_unknown a = sort_nowhere T.sorts x (told x at e k T.sorts (sorts_rows h)) a
 
 -- the sort that the first item names
 module _ {text table cells : List ℕ} {known next : ℕ} {item : Item} {r : Result ℕ Question} (told : SortTold text table known item r) {xs : Sexps} (f : ItemFirst text cells xs item next) where

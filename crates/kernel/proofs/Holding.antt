@@ -8,17 +8,17 @@ use native.Mathlib.Numerals.{add-one}
 use lib.ListN.{length-drop, drop_of_length-le, length, take, drop, set, length-append}
 use lib.Seq.{drop-drop, take_all, sets, sets-eq, length-sets, take_at, take-length, paste, length-paste}
 use Rattle.rules.specs.Limits.{LENGTH, SORTS, SYMBOLS, ARGUMENTS}
-use Rattle.rules.specs.Out.{Out, ok, refuse}
+use Rattle.rules.specs.Out.{refuse}
 use Rattle.rules.specs.Sexp.{Sexp, Sexps, item, Name}
 use Rattle.rules.specs.Theory.{Theory, Symbol, sort_named}
 use Rattle.rules.specs.Laws.Theory.{all_snoc}
 use Rattle.rules.specs.TheoryTables.{name_cells, rows, symbol_row, input_row}
 use Rattle.rules.specs.Laws.Row.{append-nil, append_assoc, rows_snoc, length_filled}
 use Rattle.rules.specs.Declare.{add_sort, add_symbol}
-use Rattle.rules.specs.Laws.Declaring.{with_sort, with_symbol, add_sort_known, add_sort_full, add_sort_new, add_symbol_full, add_symbol_new}
+use Rattle.rules.specs.Laws.Declaring.{add_sort_known, add_sort_full, add_sort_new, add_symbol_full, add_symbol_new}
 use Rattle.sexp.specs.NameRows.{NameIn}
 use Rattle.kernel.specs.SignatureRows.{sorts_cells, symbols_cells, inputs_cells}
-use Rattle.kernel.specs.Held.{Front, NameFits, SortsHeld, SymbolsHeld, SymbolIs}
+use Rattle.kernel.specs.Held.{Front, NameFits, SortsHeld, SortStored, SymbolsHeld, SymbolIs, SymbolStored}
 use Rattle.kernel.proofs.Spellings.{Proper}
 
 -- the first cells, and more written behind them
@@ -56,12 +56,6 @@ module _ {text table : List ℕ} {count : ℕ} {ns : List Name} (h : SortsHeld t
         front = front_row name_cells table ns n (s ∷ e ∷ []) (2 * count) h.front q (sorts_cells h) (omega (arith, h.long, l));
         names = all_snoc h.names k;
       }
-
--- what the definition gives is a sort more, and n are held now
-pub record SortStored (text table : List ℕ) (T : Theory) (given : Out Theory (Unit {0})) (n : ℕ) : Type 0 where
-  pub name : Name
-  pub is : given ≡ ok tt (with_sort T name)
-  pub held : SortsHeld text table n (T.sorts ++ (name ∷ []))
 
 -- the answers of `add_sort`
 module _ {text table : List ℕ} {count : ℕ} (T : Theory) (xs : Sexps) (h : SortsHeld text table count T.sorts) (s e : ℕ)
@@ -144,12 +138,6 @@ module _ {text symbols inputs : List ℕ} {count : ℕ} {ss : List Symbol} (h : 
           names = all_snoc h.names is.named;
           few = all_snoc h.few is.few;
         }
-
--- the same of a symbol
-pub record SymbolStored (text symbols inputs : List ℕ) (T : Theory) (given : Out Theory (Unit {0})) (n : ℕ) : Type 0 where
-  pub symbol : Symbol
-  pub is : given ≡ ok tt (with_symbol T symbol)
-  pub held : SymbolsHeld text symbols inputs n (T.symbols ++ (symbol ∷ []))
 
 pub symbol_full : {text symbols inputs : List ℕ} {count : ℕ} (T : Theory) (s : Symbol) → SymbolsHeld text symbols inputs count T.symbols → SYMBOLS ≤ count →
     add_symbol s T ≡ refuse 60 2 T

@@ -22,7 +22,7 @@ use Rattle.rules.specs.Laws.Theory.{all_at}
 use Rattle.sexp.specs.NameRows.{NameRows, SomeNames}
 use Rattle.kernel.specs.declared.names.Kind.TheVariants.{Constructor, Predicate}
 use Rattle.kernel.specs.Named.{of_kind, SymbolRows, SomeSymbols, called}
-use Rattle.kernel.specs.Held.{SortsHeld, SomeSorts, SymbolsHeld}
+use Rattle.kernel.specs.Held.{SomeSorts, SymbolsHeld}
 use Rattle.kernel.specs.Readers.{KnownSymbol, KnownInput, KnownInputs, NamedSymbols}
 use Rattle.rules.specs.TheoryTables.{name_cells, rows, symbol_row}
 use Rattle.kernel.specs.SignatureRows.{sorts_rows, sorts_few, symbols_rows, symbols_cells, symbols_few, input_place, argument_cell}
@@ -65,7 +65,7 @@ pub sort_inside : {text sorts : List ℕ} {count : ℕ} → SomeSorts text sorts
 sort_inside s name r i a e =
     omega (arith, found_inside name s.0 r i (a s.0 (sorts_rows s.1)) e, s.1.many, sorts_few s.1)
 
-module _ (T : Theory) {text sorts : List ℕ} {count : ℕ} (h : SortsHeld text sorts count T.sorts) (name : List ℕ) (r : Option ℕ)
+module _ (T : Theory) {text sorts : List ℕ} {count : ℕ} (h : NameRows text sorts 2 0 count T.sorts) (name : List ℕ) (r : Option ℕ)
     (a : (ns : List Name) → NameRows text sorts 2 0 count ns → r ≡ (first (λ n. same n.bytes name) ns 0)) where
   sort_after : sort_named T name ≡ next (first (λ n. same n.bytes name) T.sorts 0)
   unfolding sort_named
@@ -74,13 +74,13 @@ module _ (T : Theory) {text sorts : List ℕ} {count : ℕ} (h : SortsHeld text 
   pub sort_missing : r ≡ nothing → nothing ≡ (sort_named T name)
   unfolding next
   sort_missing e =
-      (sym (sort_after ∙ ap next (found_missing (first (λ (n : Name). same n.bytes name) T.sorts 0) r (a T.sorts (sorts_rows h)) e)))
+      (sym (sort_after ∙ ap next (found_missing (first (λ (n : Name). same n.bytes name) T.sorts 0) r (a T.sorts h) e)))
 
   pub sort_found : (i : ℕ) → r ≡ some i → some (i + 1) ≡ (sort_named T name)
   unfolding next
   sort_found i e =
       ap some (add-one i)
-      ∙ (sym (sort_after ∙ ap next (found_at (first (λ (n : Name). same n.bytes name) T.sorts 0) r i (a T.sorts (sorts_rows h)) e)))
+      ∙ (sym (sort_after ∙ ap next (found_at (first (λ (n : Name). same n.bytes name) T.sorts 0) r i (a T.sorts h) e)))
 
   -- one more than what is found, as a closure gives it
   pub sort_mapped : {P : ℕ → ℕ → Type 0} (q : Option ℕ) → MatchOption r (q ≡ nothing) (λ i. IsSomeAnd q (P i)) →

@@ -1,12 +1,13 @@
 -- Tables that hold a part of a theory in their first cells, and what the writers of declarations cite. Assumes nothing.
-use Rattle.std.specs.Prelude.{◌≡◌, ℕ, ◌+◌, ◌*◌, ◌^◌, ◌<◌, ◌≤◌, List, ◌++◌, length, Result, Ok, Err}
+use Rattle.std.specs.Prelude.{◌≡◌, ℕ, ◌+◌, ◌*◌, ◌^◌, ◌<◌, ◌≤◌, List, [], ◌∷◌, ◌++◌, length, Result, Ok, Err}
 use Rattle.std.proofs.lemmas.List.Edits.{sets}
 use Rattle.rules.specs.Limits.{LENGTH, SORTS, SYMBOLS, ARGUMENTS}
 use Rattle.rules.specs.Out.{Out, ok, refuse}
 use Rattle.rules.specs.Sexp.{Sexps, count, Name}
-use Rattle.rules.specs.Theory.{Symbol}
+use Rattle.rules.specs.Theory.{Theory, Symbol}
 use Rattle.rules.specs.Laws.Theory.{All}
 use Rattle.rules.specs.TheoryTables.{filled, sort_cells, symbol_cells, input_cells}
+use Rattle.rules.specs.Laws.Declaring.{with_sort, with_symbol}
 use Rattle.sexp.specs.Items.{Holds}
 use Rattle.sexp.specs.NameRows.{NameIn}
 use Rattle.questions.specs.declared.Question.{Question}
@@ -40,6 +41,12 @@ pub record SortsHeld (text table : List ℕ) (count : ℕ) (ns : List Name) : Ty
 
 abbrev pub SomeSorts : List ℕ → List ℕ → ℕ → Type 0
 SomeSorts text table count = (ns : List Name) × SortsHeld text table count ns
+
+-- what the definition gives is a sort more, and n are held now
+pub record SortStored (text table : List ℕ) (T : Theory) (given : Out Theory (Unit {0})) (n : ℕ) : Type 0 where
+  pub name : Name
+  pub is : given ≡ ok tt (with_sort T name)
+  pub held : SortsHeld text table n (T.sorts ++ (name ∷ []))
 
 -- Symbols ------------------------------------------------------------------------------------------------------------------------
 
@@ -93,3 +100,9 @@ pub record SymbolIs (text : List ℕ) (s : Symbol) (output arity start end : ℕ
   pub starts : s.name.start ≡ start
   pub ends : start + length s.name.bytes ≡ end
   pub cells : filled ARGUMENTS s.inputs ≡ row
+
+-- what the definition gives is a symbol more, and n are held now
+pub record SymbolStored (text symbols inputs : List ℕ) (T : Theory) (given : Out Theory (Unit {0})) (n : ℕ) : Type 0 where
+  pub symbol : Symbol
+  pub is : given ≡ ok tt (with_symbol T symbol)
+  pub held : SymbolsHeld text symbols inputs n (T.symbols ++ (symbol ∷ []))

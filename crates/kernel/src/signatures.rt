@@ -10,7 +10,8 @@ ghost use Rattle.sexp.specs.Items.{Holds};
 ghost use Rattle.kernel.specs.Spelled.{Reaching};
 ghost use Rattle.kernel.specs.Lent.{SortsIn, SomeSortsIn, GatheringIn};
 ghost use Rattle.kernel.specs.Held.{Form, ArgumentsRead};
-ghost use Rattle.kernel.specs.Tables.{SameTables, Holding, HoldingSome, Leaving, FitsIn, SymbolAs};
+ghost use Rattle.kernel.specs.Tables.{SameTables, OnlySymbols, Holding, HoldingSorts, HoldingSomeSorts, HoldingSymbols, HoldingSomeSymbols};
+ghost use Rattle.kernel.specs.Tables.{SymbolAdded, Leaving, FitsIn, SymbolAs};
 
 use crate::atoms::put_span;
 use crate::names::{Kind, SortTable};
@@ -60,6 +61,9 @@ fn store(
 ) -> Result<(), Question>
     requires { FitsIn tables.old output arity name (length row.now) }
     ensures same_tables { SameTables tables.old tables.new }
+    ensures others { OnlySymbols tables.old tables.new }
+    ensures added { (text : List ℕ) (T : Theory) (s : Symbol) → HoldingSymbols text tables.old T.symbols →
+        SymbolAs text s output arity name row.now → SymbolAdded text tables.old tables.new T (add_symbol s T) result }
     ensures declared { (text : List ℕ) (T : Theory) (s : Symbol) → Holding text tables.old T →
         SymbolAs text s output arity name row.now → Leaving text tables.new T (add_symbol s T) result }
 {
@@ -80,8 +84,12 @@ fn store(
 // name; one function would take it as an option.
 pub fn add_ctor(text: &[u8], form: &[u32], tables: &mut Tables<'_>) -> Result<(), Question>
     requires form { Form text.now form.now 4 }
-    requires held { HoldingSome text.now tables.old }
+    requires some_sorts { HoldingSomeSorts text.now tables.old }
+    requires some_symbols_held { HoldingSomeSymbols text.now tables.old }
     ensures same_tables { SameTables tables.old tables.new }
+    ensures others { OnlySymbols tables.old tables.new }
+    ensures added { (T : Theory) (xs : Sexps) → HoldingSorts text.now tables.old T.sorts → HoldingSymbols text.now tables.old T.symbols →
+        Holds text.now form.now xs → 4 ≡ items xs → SymbolAdded text.now tables.old tables.new T (add_ctor xs T) result }
     ensures declared { (T : Theory) (xs : Sexps) → Holding text.now tables.old T → Holds text.now form.now xs → 4 ≡ items xs →
         Leaving text.now tables.new T (add_ctor xs T) result }
 {
@@ -103,8 +111,12 @@ pub fn add_ctor(text: &[u8], form: &[u32], tables: &mut Tables<'_>) -> Result<()
 // `(pred NAME (SORT...))`, given the items of the form.
 pub fn add_pred(text: &[u8], form: &[u32], tables: &mut Tables<'_>) -> Result<(), Question>
     requires form { Form text.now form.now 3 }
-    requires held { HoldingSome text.now tables.old }
+    requires some_sorts { HoldingSomeSorts text.now tables.old }
+    requires some_symbols_held { HoldingSomeSymbols text.now tables.old }
     ensures same_tables { SameTables tables.old tables.new }
+    ensures others { OnlySymbols tables.old tables.new }
+    ensures added { (T : Theory) (xs : Sexps) → HoldingSorts text.now tables.old T.sorts → HoldingSymbols text.now tables.old T.symbols →
+        Holds text.now form.now xs → 3 ≡ items xs → SymbolAdded text.now tables.old tables.new T (add_pred xs T) result }
     ensures declared { (T : Theory) (xs : Sexps) → Holding text.now tables.old T → Holds text.now form.now xs → 3 ≡ items xs →
         Leaving text.now tables.new T (add_pred xs T) result }
 {

@@ -9,9 +9,9 @@ ghost use Rattle.sexp.specs.Items.{item_of, Holds};
 ghost use Rattle.rules.specs.Laws.Declaring.{proper, sort_of};
 ghost use Rattle.kernel.specs.Spelled.{Reaching, name_of};
 ghost use Rattle.sexp.specs.FirstItem.{SomeItem};
+ghost use Rattle.sexp.specs.NameRows.{NameRows, SomeNames};
 ghost use Rattle.kernel.specs.Held.{Form};
-ghost use Rattle.kernel.specs.Lent.{SortsIn, SomeSortsIn};
-ghost use Rattle.kernel.specs.Tables.{SameTables, Holding, HoldingSome, Leaving};
+ghost use Rattle.kernel.specs.Tables.{SameTables, OnlySorts, Holding, HoldingSorts, HoldingSomeSorts, SortAdded, Leaving};
 
 use crate::atoms::{marked, put_span};
 use crate::names::SortTable;
@@ -19,6 +19,7 @@ use crate::tables::Tables;
 use cells::Span;
 use questions::{Question, Row};
 use sexp::items::Item;
+use sexp::names::named;
 use sexp::{items, lex};
 
 // Question 11, `name`: an atom that does not start with `?`, by its place in the text.
@@ -45,24 +46,28 @@ pub fn proper_at(text: &[u8], form: &[u32], number: usize) -> Result<Span, Quest
 }
 
 impl SortTable<'_> {
-    // The number of the sort that an item of the text names, from 1 on.
+    // The number of the sort that an item of the text names, from 1 on. Of the rows it asks their names alone, where `named` asks for a whole table of sorts.
     pub fn sort(&self, item: Item) -> Result<usize, Question>
         requires some_item { SomeItem self.now.text.now item }
-        requires some_sorts { SomeSortsIn self.now }
+        requires some_names { SomeNames self.now.text.now self.now.rows.now 2 0 self.now.count }
         ensures { (x : Sexp) (at : ℕ) → item ≡ item_of at x → Spelt self.now.text.now x →
-            (ns : List Name) → SortsIn self.now ns → result ≡ ok_or (sort_of ns x) Declared }
+            (ns : List Name) → NameRows self.now.text.now self.now.rows.now 2 0 self.now.count ns → result ≡ ok_or (sort_of ns x) Declared }
     {
         let name = proper(self.text, item)?;
         let bytes = name.of(self.text);
-        self.named(bytes).ok_or(Question::Declared)
+        let found = named(self.text, self.rows, 2, 0, self.count, bytes);
+        found.map(|i| i + 1).ok_or(Question::Declared)
     }
 }
 
 // `(sort NAME)`, given the items of the form.
 pub fn add_sort(text: &[u8], form: &[u32], tables: &mut Tables<'_>) -> Result<(), Question>
     requires form { Form text.now form.now 2 }
-    requires held { HoldingSome text.now tables.old }
+    requires some_sorts { HoldingSomeSorts text.now tables.old }
     ensures same_tables { SameTables tables.old tables.new }
+    ensures others { OnlySorts tables.old tables.new }
+    ensures added { (T : Theory) (xs : Sexps) → HoldingSorts text.now tables.old T.sorts → Holds text.now form.now xs →
+        SortAdded text.now tables.old tables.new T (add_sort xs T) result }
     ensures declared { (T : Theory) (xs : Sexps) → Holding text.now tables.old T → Holds text.now form.now xs →
         Leaving text.now tables.new T (add_sort xs T) result }
 {

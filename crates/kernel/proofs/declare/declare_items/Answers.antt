@@ -16,7 +16,7 @@ returns-in_err-tag-clause-declared c = λ T xs h k.
     (no_tag _ _ _ T xs h (untold (c.tag_of.ensures xs k) (absent _ _ c.ok_or.ensures.ok_part c.in_err-tag.was)))
 
 pub add_sort-requires : goal.add_sort-requires
-add_sort-requires c = record { form = form_of c.requires a_sort (told Sort (c.tag_of.ensures c.requires.xs c.requires.holds) (there _ _ c.ok_or.ensures.ok_part c.in_ok-tag.was) c.in-Sort.is); held = (c.requires.T, c.requires.held) }
+add_sort-requires c = record { form = form_of c.requires a_sort (told Sort (c.tag_of.ensures c.requires.xs c.requires.holds) (there _ _ c.ok_or.ensures.ok_part c.in_ok-tag.was) c.in-Sort.is); some_sorts = (c.requires.T.sorts, c.requires.held.sorts) }
 
 pub returns-in-Sort-clause-declared : goal.returns-in-Sort-clause-declared
 returns-in-Sort-clause-declared c = λ T xs h k.
@@ -24,7 +24,7 @@ returns-in-Sort-clause-declared c = λ T xs h k.
     sort_taken _ _ _ T xs c.add_sort.result tag (c.add_sort.ensures.declared T xs h k)
 
 pub add_ctor-requires : goal.add_ctor-requires
-add_ctor-requires c = record { form = form_of c.requires a_ctor (told Ctor (c.tag_of.ensures c.requires.xs c.requires.holds) (there _ _ c.ok_or.ensures.ok_part c.in_ok-tag.was) c.in-Ctor.is); held = (c.requires.T, c.requires.held) }
+add_ctor-requires c = record { form = form_of c.requires a_ctor (told Ctor (c.tag_of.ensures c.requires.xs c.requires.holds) (there _ _ c.ok_or.ensures.ok_part c.in_ok-tag.was) c.in-Ctor.is); some_sorts = (c.requires.T.sorts, c.requires.held.sorts); some_symbols_held = (c.requires.T.symbols, c.requires.held.symbols) }
 
 pub returns-in-Ctor-clause-declared : goal.returns-in-Ctor-clause-declared
 returns-in-Ctor-clause-declared c = λ T xs h k.
@@ -32,7 +32,7 @@ returns-in-Ctor-clause-declared c = λ T xs h k.
     ctor_taken _ _ _ T xs c.add_ctor.result tag (c.add_ctor.ensures.declared T xs h k (item_many xs a_ctor tag))
 
 pub add_pred-requires : goal.add_pred-requires
-add_pred-requires c = record { form = form_of c.requires a_pred (told Pred (c.tag_of.ensures c.requires.xs c.requires.holds) (there _ _ c.ok_or.ensures.ok_part c.in_ok-tag.was) c.in-Pred.is); held = (c.requires.T, c.requires.held) }
+add_pred-requires c = record { form = form_of c.requires a_pred (told Pred (c.tag_of.ensures c.requires.xs c.requires.holds) (there _ _ c.ok_or.ensures.ok_part c.in_ok-tag.was) c.in-Pred.is); some_sorts = (c.requires.T.sorts, c.requires.held.sorts); some_symbols_held = (c.requires.T.symbols, c.requires.held.symbols) }
 
 pub returns-in-Pred-clause-declared : goal.returns-in-Pred-clause-declared
 returns-in-Pred-clause-declared c = λ T xs h k.

@@ -2,6 +2,7 @@ use mathlib.Core.Path.{refl}
 use native.Mathlib.Omega.{arith}
 use Rattle.sexp.specs.Each.{here, over}
 use Rattle.kernel.proofs.Handed.{handed}
+use Rattle.kernel.proofs.Readings.{some_names}
 use Rattle.kernel.proofs.Arguments.{gathers_start, gathers_over, gathers_item, gathers_unknown, gathers_full, gathers_small, gathers_on}
 use Rattle.kernel.proofs.signatures.argument_sorts.Goals as goal
 
@@ -14,7 +15,7 @@ sort-requires c =
     let h = here c.loop-k.invariant.cells c.in-Some.ensures.steps.0 in
     record {
       some_item = gathers_item c.loop-k.invariant.gathers h _ c.item_at.ensures c.requires.held (c.requires.xs, c.requires.holds);
-      some_sorts = c.requires.held;
+      some_names = some_names c.requires.held;
     }
 
 pub returns-in_err-s : goal.returns-in_err-s
