@@ -12,4 +12,4 @@ slice_bounds-as_chunks-end c = counted_room c.requires.1.1.1
 pub returns : goal.returns
 returns c = λ T text ins h.
     let e : c.count.result ≡ count_by (λ (row : List ℕ). eqb (get_or row 0 0) c.args.sort) c.as_chunks.result.0.now = search rules in
-    e ∙ ap (count_by (λ (row : List ℕ). eqb (get_or row 0 0) c.args.sort)) c.as_chunks.ensures.front ∙ counted T h c.args.sort
+    omega (arith, e ∙ ap (count_by (λ (row : List ℕ). eqb (get_or row 0 0) c.args.sort)) c.as_chunks.ensures.front ∙ counted T h c.args.sort)
