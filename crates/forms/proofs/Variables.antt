@@ -212,14 +212,14 @@ module _ {theory goals text sorts symbols vars : List ℕ} {n : Sizes} {cells : 
                         var_full which g.xs g.S var_name_lem.is var_sort_text.1 sort_is (sym m ∙ no) (sym free_told ∙ t)
                         (omega (arith, g.vars_are.stand.many))
 
-                    pub var_fits : n.vars < VARIABLES → VarAt vars n.vars × Fits4 k start end 0
-                    var_fits q = (
+                    pub var_fits : {which : ℕ} → which < 2 ^ 32 → n.vars < VARIABLES → VarAt vars n.vars × Fits4 k which start end
+                    var_fits w q = (
                       (vars_long g.vars_are.stand, q),
                       record {
                         first = var_sort_small;
-                        second = omega (arith, var_name_lem.inside, g.short);
-                        third = omega (arith, atom_high text start end var_name_lem.inside refl, g.short);
-                        fourth = omega arith;
+                        second = w;
+                        third = omega (arith, var_name_lem.inside, g.short);
+                        fourth = omega (arith, atom_high text start end var_name_lem.inside refl, g.short);
                       },
                     )
 

@@ -1,8 +1,7 @@
 // `(var NAME SORT)` and `(def ?NAME TERM)`: questions 21 and 33.
-ghost use Rattle.std.specs.Prelude.{◌≡◌};
+ghost use Rattle.std.specs.Prelude.{◌≡◌, ◌^◌, ◌<◌};
 ghost use Rattle.rules.specs.State.{State};
 ghost use Rattle.rules.specs.Forms.{add_var, add_def};
-ghost use Rattle.questions.specs.Numbers.{text_number};
 ghost use Rattle.terms.specs.Lent.{SameTables};
 ghost use Rattle.state.specs.Boards.{SameBoard, OnlyVars, OnlyDefs};
 ghost use Rattle.forms.specs.Boards.{LooksUp, KnownIn, AddsVarIn, ReadsFormIn};
@@ -11,7 +10,7 @@ ghost use Rattle.forms.specs.Declares.{unused, VarAs, NamedAs, DefAs};
 use cells::Span;
 use kernel::atoms::marked;
 use kernel::names::SortTable;
-use questions::{Question, Row, Text};
+use questions::{Question, Row};
 use reading::reader::reader_of;
 use rules::{DEFS, VARIABLES};
 use sexp::items::Item;
@@ -34,17 +33,18 @@ fn is_unused(given: &Given<'_>, board: &Board<'_>, name: &[u8]) -> bool
         && vars.named(name).is_none()
 }
 
-// `(var NAME SORT)`, by the items of the form; its name stands in that text.
+// `(var NAME SORT)`, by the items of the form; `which` is the number of the text in which its name stands (`Text::number`), or any other that fits into a
+// cell.
 pub fn add_var(
     given: &Given<'_>,
     board: &mut Board<'_>,
-    text: Text,
+    which: usize,
     cells: &[u32],
 ) -> Result<(), Question>
-    requires { AddsVarIn given.now board.old cells.now }
+    requires { AddsVarIn given.now board.old cells.now × (which < 2 ^ 32) }
     ensures same_board { SameBoard board.old board.new }
     ensures only { OnlyVars board.old board.new }
-    ensures var_as { (g : AddsVarIn given.now board.old cells.now) → let which = text_number text in
+    ensures var_as { (g : AddsVarIn given.now board.old cells.now) →
         VarAs given.now board.old board.new which g.S (add_var which g.xs g.S) result }
 {
     let Item::Atom(start) = items::nth(cells, 1) else {
@@ -68,7 +68,7 @@ pub fn add_var(
     if board.n.vars >= VARIABLES {
         return Err(Question::Room(Row::Variables));
     }
-    put_var(board.vars, board.n.vars, sort, Some(text), name);
+    put_var(board.vars, board.n.vars, sort, which, name);
     board.n.vars += 1;
     Ok(())
 }

@@ -4,19 +4,12 @@ ghost use Rattle.std.specs.Prelude.{◌≡◌, List, [], ◌∷◌, ℕ, ◌*◌
 ghost use Rattle.std.proofs.lemmas.List.Edits.{sets};
 ghost use Rattle.rules.specs.Text.{same};
 ghost use Rattle.rules.specs.State.{Var, var_named, no_var};
-ghost use Rattle.state.specs.Rows.{cell, Fits4, SomeVarsIn, VarsIn, VarAt, text_cell};
+ghost use Rattle.state.specs.Rows.{cell, Fits4, SomeVarsIn, VarsIn, VarAt};
 
 use cells::{Span, span_at};
 use kernel::atoms::put_span;
 use questions::Text;
 use sexp::names::same;
-
-// The cell for the text in which a variable's name stands; a made variable has none, and 0 there.
-fn text_cell(text: Option<Text>) -> u32
-    ensures { result ≡ text_cell text }
-{
-    text.map_or(0, |text| text.number() as u32)
-}
 
 // The variables that there are, and the texts in which their names stand.
 #[derive(Clone, Copy)]
@@ -36,7 +29,7 @@ impl VarTable<'_> {
     {
         let at = 4 * i;
         let span = span_at(self.rows, at + 2);
-        if self.rows[at + 1] == text_cell(Some(Text::Goals)) {
+        if self.rows[at + 1] as usize == Text::Goals.number() {
             return same(span.of(self.goals), name);
         }
         same(span.of(self.text), name)
@@ -60,14 +53,15 @@ pub fn var_sort(vars: &[u32], v: usize) -> usize
     vars[4 * v] as usize
 }
 
-// The row of variable v. `text` is an option, since it is promised so; a variable that is made goes by `put_made_var`.
-pub fn put_var(vars: &mut [u32], v: usize, sort: usize, text: Option<Text>, name: Span)
-    requires { VarAt vars.old v × Fits4 sort name.from name.end 0 }
-    ensures { vars.new ≡ sets vars.old (4 * v) (sort ∷ text_cell text ∷ name.from ∷ name.end ∷ []) }
+// The row of variable v. `text` is the number of the text in which its name stands (`Text::number`), or any other that fits into a cell; a variable that is
+// made goes by `put_made_var`.
+pub fn put_var(vars: &mut [u32], v: usize, sort: usize, text: usize, name: Span)
+    requires { VarAt vars.old v × Fits4 sort text name.from name.end }
+    ensures { vars.new ≡ sets vars.old (4 * v) (sort ∷ text ∷ name.from ∷ name.end ∷ []) }
 {
     let at = 4 * v;
     vars[at] = sort as u32;
-    vars[at + 1] = text_cell(text);
+    vars[at + 1] = text as u32;
     put_span(vars, at + 2, name);
 }
 
@@ -76,5 +70,5 @@ pub fn put_made_var(vars: &mut [u32], v: usize, sort: usize)
     requires { VarAt vars.old v × (sort < 2 ^ 32) }
     ensures { vars.new ≡ sets vars.old (4 * v) (sort ∷ 0 ∷ 0 ∷ 0 ∷ []) }
 {
-    put_var(vars, v, sort, None, Span { from: 0, end: 0 });
+    put_var(vars, v, sort, 0, Span { from: 0, end: 0 });
 }

@@ -49,7 +49,7 @@ fn goal_items(
         GoalTriedIn given.now board.old board.new store.old store.new g.items.S (chosen 20 goal (tagged goal_form g.items.xs) g.items.xs g.items.S) result }
 {
     match tag_of_goal(given.text, cells).ok_or(Question::GoalForm)? {
-        GoalForm::Variable => add_var(given, board, Text::Goals, cells),
+        GoalForm::Variable => add_var(given, board, Text::Goals.number(), cells),
         GoalForm::Goal => add_goal(given, board, store, cells),
         GoalForm::GoalWith => add_goal_with(given, board, store, cells),
     }
@@ -107,7 +107,7 @@ fn form_items(
     let tag = tag_of(given.text, cells).ok_or(Question::ProofForm)?;
     own_index(given.text, cells, tag, board.n)?;
     match tag {
-        Tag::Var => add_var(given, board, Text::Proof, cells).and(Ok(Counts::NONE)),
+        Tag::Var => add_var(given, board, Text::Proof.number(), cells).and(Ok(Counts::NONE)),
         Tag::Def => add_def(given, board, store, cells).and(Ok(Counts::NONE)),
         Tag::Step => add_derived(given, board, store, cells, Way::Step, memo, ids),
         Tag::Hyp => add_hyp(given, board, store, cells).and(Ok(one_hypothesis())),

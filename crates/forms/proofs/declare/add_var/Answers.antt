@@ -13,7 +13,7 @@ pub returns-in_default-clause-var_as : goal.returns-in_default-clause-var_as
 returns-in_default-clause-var_as c = λ g. (var_no_name g c.nth.ensures _ c.in_default.is, refl, refl)
 
 pub head-requires : goal.head-requires
-head-requires c = var_sort_held c.requires c.nth.ensures c.in-Atom.is c.from.ensures
+head-requires c = var_sort_held c.requires.0 c.nth.ensures c.in-Atom.is c.from.ensures
 
 pub returns-in_err-own-clause-var_as : goal.returns-in_err-own-clause-var_as
 returns-in_err-own-clause-var_as c = λ g.
@@ -31,7 +31,7 @@ returns-in_err-sort-clause-var_as c = λ g.
     )
 
 pub marked-requires : goal.marked-requires
-marked-requires c = (var_name_lem c.requires c.nth.ensures c.in-Atom.is).inside
+marked-requires c = (var_name_lem c.requires.0 c.nth.ensures c.in-Atom.is).inside
 
 pub returns-then-marked-clause-var_as : goal.returns-then-marked-clause-var_as
 returns-then-marked-clause-var_as c = λ g. (
@@ -42,10 +42,10 @@ returns-then-marked-clause-var_as c = λ g. (
 )
 
 pub atom_span-name-requires : goal.atom_span-name-requires
-atom_span-name-requires c = omega (arith, (var_name_lem c.requires c.nth.ensures c.in-Atom.is).inside)
+atom_span-name-requires c = omega (arith, (var_name_lem c.requires.0 c.nth.ensures c.in-Atom.is).inside)
 
 pub of-requires : goal.of-requires
-of-requires c = rw c.atom_span-name.ensures (omega arith, atom_high _ _ _ (var_name_lem c.requires c.nth.ensures c.in-Atom.is).inside refl)
+of-requires c = rw c.atom_span-name.ensures (omega arith, atom_high _ _ _ (var_name_lem c.requires.0 c.nth.ensures c.in-Atom.is).inside refl)
 
 pub returns-then-not-is_unused-clause-var_as : goal.returns-then-not-is_unused-clause-var_as
 returns-then-not-is_unused-clause-var_as c = λ g. (
@@ -66,8 +66,8 @@ returns-then-board-ge-VARIABLES-clause-var_as c = λ g. (
 
 pub put_var-requires : goal.put_var-requires
 put_var-requires c = rw c.atom_span-name.ensures
-    (var_fits c.requires c.nth.ensures c.in-Atom.is c.from.ensures _ c.head.ensures (there _ _ c.ok_or.ensures.ok_part c.in_ok-own.was) c.named.ensures
-    (there _ _ c.ok_or-2.ensures.ok_part c.in_ok-sort.was) c.marked.ensures c.if-marked.false (rw (c.of.ensures, c.atom_span-name.ensures) at c.is_unused.ensures) (not-false _ (ap not c.if-not-is_unused.false)) c.if-board-ge-VARIABLES.false)
+    (var_fits c.requires.0 c.nth.ensures c.in-Atom.is c.from.ensures _ c.head.ensures (there _ _ c.ok_or.ensures.ok_part c.in_ok-own.was) c.named.ensures
+    (there _ _ c.ok_or-2.ensures.ok_part c.in_ok-sort.was) c.marked.ensures c.if-marked.false (rw (c.of.ensures, c.atom_span-name.ensures) at c.is_unused.ensures) (not-false _ (ap not c.if-not-is_unused.false)) c.requires.1 c.if-board-ge-VARIABLES.false)
 
 pub returns-clause-var_as : goal.returns-clause-var_as
 returns-clause-var_as c = λ g. (

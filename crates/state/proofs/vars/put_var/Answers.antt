@@ -3,4 +3,4 @@ use Rattle.state.proofs.Stores.{stores4}
 use Rattle.state.proofs.vars.put_var.Goals as goal
 
 pub returns : goal.returns
-returns c = rw (c.put_span.ensures, c.text_cell.ensures) (stores4 c.args.vars.now (4 * c.args.v) c.args.sort _ c.args.name.from c.args.name.end)
+returns c = rw c.put_span.ensures (stores4 c.args.vars.now (4 * c.args.v) c.args.sort c.args.text c.args.name.from c.args.name.end)

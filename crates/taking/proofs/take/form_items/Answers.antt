@@ -8,6 +8,7 @@ use mathlib.Core.Path.{ap, ◌∙◌}
 use Rattle.std.specs.Prelude.{Err}
 use Rattle.kernel.proofs.Handed.{handed}
 use Rattle.kernel.proofs.Missing.{there, absent, question_is}
+use native.Mathlib.Omega.{arith}
 use Rattle.entering.specs.declared.derive.Way.TheVariants as way
 use Rattle.entering.specs.Laws.Inverting.{stands_inversion}
 use Rattle.taking.proofs.Heads.{told, untold}
@@ -24,14 +25,16 @@ returns-in_err-own_index-clause-tried_as c = λ i.
 
 pub add_var-requires : goal.add_var-requires
 add_var-requires c =
-    let i = c.requires.0 in
-    gives_var i.stands i.holds (many i (rw (there _ _ c.ok_or.ensures.ok_part c.in_ok-tag.was) at (c.tag_of.ensures i.xs i.holds)) Var c.in-Var.is)
+    let i = c.requires.0 in (
+      gives_var i.stands i.holds (many i (rw (there _ _ c.ok_or.ensures.ok_part c.in_ok-tag.was) at (c.tag_of.ensures i.xs i.holds)) Var c.in-Var.is),
+      rw c.number.ensures (omega arith),
+    )
 
 pub returns-in-Var-clause-tried_as : goal.returns-in-Var-clause-tried_as
 returns-in-Var-clause-tried_as c = λ i.
     let f = rw (there _ _ c.ok_or.ensures.ok_part c.in_ok-tag.was) at (c.tag_of.ensures i.xs i.holds) in
     rw c.and.ensures (performed i (told Var f c.in-Var.is) (perform_var i.xs i.S) c.add_var.new.board c.args.store.now _
-    (var_tried i c.add_var.new.board _ c.add_var.ensures.only (c.add_var.ensures.var_as (gives_var i.stands i.holds (many i f Var c.in-Var.is)))))
+    (var_tried i c.add_var.new.board _ c.add_var.ensures.only (rw c.number.ensures at (c.add_var.ensures.var_as (gives_var i.stands i.holds (many i f Var c.in-Var.is))))))
 
 pub add_def-requires : goal.add_def-requires
 add_def-requires c =

@@ -2,6 +2,7 @@ use mathlib.Core.Path.{refl, ap, ◌∙◌}
 use Rattle.std.specs.Prelude.{Err}
 use Rattle.kernel.proofs.Handed.{handed}
 use Rattle.kernel.proofs.Missing.{there, absent, question_is}
+use native.Mathlib.Omega.{arith}
 use Rattle.rules.specs.Tags.{a_variable, a_goal, a_goal_with}
 use Rattle.sexp.specs.declared.tags.GoalForm.TheVariants.{Variable, Goal, GoalWith}
 use Rattle.forms.specs.Laws.Declared.{gives_var}
@@ -11,7 +12,10 @@ use Rattle.taking.proofs.Arms.{goal_given, goal_untagged, posed, posed_var, pose
 use Rattle.taking.proofs.take.goal_items.Goals as goal
 
 pub add_var-requires : goal.add_var-requires
-add_var-requires c = (gives_var c.requires.items.stands c.requires.items.holds (goal_many c.requires.items.xs a_variable (told_goal Variable (rw (there _ _ c.ok_or.ensures.ok_part c.in_ok-ok_or.was) at (c.tag_of_goal.ensures c.requires.items.xs c.requires.items.holds)) c.in-Variable.is)))
+add_var-requires c = (
+  gives_var c.requires.items.stands c.requires.items.holds (goal_many c.requires.items.xs a_variable (told_goal Variable (rw (there _ _ c.ok_or.ensures.ok_part c.in_ok-ok_or.was) at (c.tag_of_goal.ensures c.requires.items.xs c.requires.items.holds)) c.in-Variable.is)),
+  rw c.number.ensures (omega arith),
+)
 
 pub add_goal-requires : goal.add_goal-requires
 add_goal-requires c = (goal_given c.requires (goal_many c.requires.items.xs a_goal (told_goal Goal (rw (there _ _ c.ok_or.ensures.ok_part c.in_ok-ok_or.was) at (c.tag_of_goal.ensures c.requires.items.xs c.requires.items.holds)) c.in-Goal.is)))
@@ -24,7 +28,7 @@ add_goal_with-requires-clause-lists_len c = stands_lists (rw c.requires.text at 
 
 pub returns-in-Variable-clause-tried_as : goal.returns-in-Variable-clause-tried_as
 returns-in-Variable-clause-tried_as c = λ i. posed i (told_goal Variable (rw (there _ _ c.ok_or.ensures.ok_part c.in_ok-ok_or.was) at (c.tag_of_goal.ensures i.items.xs i.items.holds)) c.in-Variable.is) (goal_var i.items.xs i.items.S) c.add_var.new.board c.args.store.now _
-    (posed_var i c.add_var.new.board _ c.add_var.ensures.only (c.add_var.ensures.var_as (gives_var i.items.stands i.items.holds (goal_many i.items.xs a_variable (told_goal Variable (rw (there _ _ c.ok_or.ensures.ok_part c.in_ok-ok_or.was) at (c.tag_of_goal.ensures i.items.xs i.items.holds)) c.in-Variable.is)))))
+    (posed_var i c.add_var.new.board _ c.add_var.ensures.only (rw c.number.ensures at (c.add_var.ensures.var_as (gives_var i.items.stands i.items.holds (goal_many i.items.xs a_variable (told_goal Variable (rw (there _ _ c.ok_or.ensures.ok_part c.in_ok-ok_or.was) at (c.tag_of_goal.ensures i.items.xs i.items.holds)) c.in-Variable.is))))))
 
 pub returns-in-Goal-clause-tried_as : goal.returns-in-Goal-clause-tried_as
 returns-in-Goal-clause-tried_as c = λ i. posed i (told_goal Goal (rw (there _ _ c.ok_or.ensures.ok_part c.in_ok-ok_or.was) at (c.tag_of_goal.ensures i.items.xs i.items.holds)) c.in-Goal.is) refl c.add_goal.new.board c.add_goal.new.store _
