@@ -67,7 +67,7 @@ returns-then-board-ge-VARIABLES-clause-var_as c = λ g. (
 pub put_var-requires : goal.put_var-requires
 put_var-requires c = rw c.atom_span-name.ensures
     (var_fits c.requires.0 c.nth.ensures c.in-Atom.is c.from.ensures _ c.head.ensures (there _ _ c.ok_or.ensures.ok_part c.in_ok-own.was) c.named.ensures
-    (there _ _ c.ok_or-2.ensures.ok_part c.in_ok-sort.was) c.marked.ensures c.if-marked.false (rw (c.of.ensures, c.atom_span-name.ensures) at c.is_unused.ensures) (not-false _ (ap not c.if-not-is_unused.false)) c.requires.1 c.if-board-ge-VARIABLES.false)
+    (there _ _ c.ok_or-2.ensures.ok_part c.in_ok-sort.was) c.marked.ensures c.if-marked.false (rw (c.of.ensures, c.atom_span-name.ensures) at c.is_unused.ensures) (not-false _ (ap not c.if-not-is_unused.false)) (omega (arith, c.requires.1)) c.if-board-ge-VARIABLES.false)
 
 pub returns-clause-var_as : goal.returns-clause-var_as
 returns-clause-var_as c = λ g. (
