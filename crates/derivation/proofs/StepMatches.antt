@@ -2,7 +2,6 @@
 use mathlib.Core.Path.{◌≡◌, refl, sym, ap, ◌∙◌, subst}
 use mathlib.Core.Bool.{Bool, true, false, true≢false}
 use Rattle.std.specs.Prelude.{Option, Some as some, None as nothing}
-use Rattle.std.specs.Option.{is_some}
 use mathlib.Core.List.{List, [], ◌∷◌}
 use Prim.Native.Nat.{ℕ, suc, ◌<◌}
 use native.Mathlib.Omega.{arith}
@@ -14,7 +13,7 @@ use Rattle.rules.specs.Match.{Bound, and_then, matches, match_all, build}
 use Rattle.rules.specs.Step.{match_stated, conclude}
 use Rattle.terms.specs.declared.store.Mark.{Mark}
 use Rattle.terms.specs.Table.{made, args_of}
-use Rattle.terms.specs.Patterns.{tree_in, bound_of, Stands, Cells, Builds, Stops, AllMatchable, Buildable, Tried, hit, miss, TriedAll}
+use Rattle.terms.specs.Patterns.{tree_in, bound_of, Stands, Cells, Builds, Stops, AllMatchable, Buildable, AllMatched, all, not_all, MatchedAll}
 use Rattle.terms.specs.On.{On, Stopped, on_start, on_is, on_done, on_went, on_stopped, on_found_some, on_found_none, builds_went, stops_stopped}
 use Rattle.terms.specs.Laws.Growth.{made_length}
 use Rattle.reading.specs.Answers.{TermRead}
@@ -31,10 +30,10 @@ module _ {M : Made} {C : List ℕ} {K : Option Bound} where
   matched_no (matched e c f) q = absurd (true≢false (sym f ∙ q))
   matched_no (unmatched e f) q = e
 
-  -- whether there is a place behind
-  tried_is : {behind : ℕ} {r : Option ℕ} → Tried M C K behind r → MatchedAs M C K (is_some r)
-  tried_is (hit e c f) = matched e c (ap is_some f)
-  tried_is (miss e c f) = unmatched e (ap is_some f)
+  -- of a list of patterns
+  all_is : {B : List ℕ} {r : Bool} → AllMatched M B C K r → MatchedAs M C K r
+  all_is (all e c f) = matched e c f
+  all_is (not_all e c f) = unmatched e f
 
   -- of one pattern
   matched_one : {b : Bool} → MatchedAs M C (and_then K (λ c. some c)) b → MatchedAs M C K b
@@ -76,13 +75,13 @@ module _ {S P I W : List ℕ} {m : Mark} {B : List ℕ} {place stated : ℕ} (g 
           there = λ k h. let z : k ≡ 0 = omega arith in subst (λ (j : ℕ). get_or (id ∷ []) j 0 < m.terms) (sym z) stated_small;
         }
 
-    pub stated_matched : {C : List ℕ} {r : Option ℕ} → TriedAll S P I W m B C place (id ∷ []) r →
-        (p : Tree) → Stands S P place p → MatchedAs (made I W m) C (match_stated p (tree_in (made I W m) stated) (bound_of (made I W m) B)) (is_some r)
+    pub stated_matched : {C : List ℕ} {r : Bool} → MatchedAll S P I W m B C place (id ∷ []) r →
+        (p : Tree) → Stands S P place p → MatchedAs (made I W m) C (match_stated p (tree_in (made I W m) stated) (bound_of (made I W m) B)) r
     unfolding match_stated Stands count_trees matches args_of
     stated_matched {C} {r} a p w =
-        subst (λ (K : Option Bound). MatchedAs (made I W m) C K (is_some r))
+        subst (λ (K : Option Bound). MatchedAs (made I W m) C K r)
         (sym (ap (λ (o : Option Tree). match_stated p o (bound_of (made I W m) B)) (tree_in_some (made I W m) id e)))
-        (matched_one (tried_is (a (more p none) (w, tt) refl)))
+        (matched_one (all_is (a (more p none) (w, tt) refl)))
 
   -- none is
   pub stated_none : stated ≡ 0 → (p : Tree) → Stands S P place p →
@@ -132,13 +131,13 @@ module _ {S P I W : List ℕ} {m : Mark} {B : List ℕ} {first place : ℕ} {ids
       on_second = on_found_some second 38 on_first first_hit.0
 
       -- b: the premises match
-      module _ {D : List ℕ} {r : Option ℕ} (d : TriedAll S P I W m C D first ids r) where
-        pub premises_other : is_some r ≡ false → Stopped I W I W m answer 38 0 m
-        premises_other f = on_found_none last 38 on_second (matched_no (tried_is (d g.rule.premises g.premises g.many)) f)
+      module _ {D : List ℕ} {r : Bool} (d : MatchedAll S P I W m C D first ids r) where
+        pub premises_other : r ≡ false → Stopped I W I W m answer 38 0 m
+        premises_other f = on_found_none last 38 on_second (matched_no (all_is (d g.rule.premises g.premises g.many)) f)
 
-        module _ (f : is_some r ≡ true) where
+        module _ (f : r ≡ true) where
           hits : (match_all g.rule.premises (args_of (made I W m) ids) (bound_of (made I W m) C) ≡ some (bound_of (made I W m) D)) × Cells (length (made I W m)) D
-          hits = matched_yes (tried_is (d g.rule.premises g.premises g.many)) f
+          hits = matched_yes (all_is (d g.rule.premises g.premises g.many)) f
 
           on_last : On I W m answer I W m (last (bound_of (made I W m) D) (made I W m))
           on_last = on_found_some last 38 on_second hits.0

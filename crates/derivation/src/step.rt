@@ -1,5 +1,5 @@
 // `(step N RULE (REF...) ITEM...)`: an instance of a rule, from earlier facts.
-ghost use Rattle.std.specs.Prelude.{◌≡◌, ℕ, length, replicate};
+ghost use Rattle.std.specs.Prelude.{◌≡◌, ℕ, length, replicate, IsFalse, OnErr};
 ghost use Rattle.rules.specs.Limits.{TERMS, PATTERNS};
 ghost use Rattle.rules.specs.Find.{rising};
 ghost use Rattle.rules.specs.Sexp.{count, rest};
@@ -73,7 +73,7 @@ fn references(
     Ok(Brought { instances, support })
 }
 
-// Whether what is stated, if something is, matches the pattern at a place; if not, what is bound is of no use.
+// Whether what is stated, if something is, matches the pattern at a place; if not, what is bound is as it was.
 fn match_stated(
     patterns: &Patterns<'_>,
     terms: &Terms<'_>,
@@ -82,21 +82,19 @@ fn match_stated(
     stated: Option<usize>,
 ) -> bool
     requires { StatedIn patterns.now terms.now (cells_of bound.old) place stated }
-    ensures { (p : Tree) → Stands patterns.now.symbols.now patterns.now.words.now place p → let M = terms_made terms.now in
+    ensures matched_as { (p : Tree) → Stands patterns.now.symbols.now patterns.now.words.now place p → let M = terms_made terms.now in
         MatchedAs M (cells_of bound.new) (match_stated p (stated_in M stated) (bound_of M (cells_of bound.old))) result }
+    ensures set_back { IsFalse result → bound.new ≡ bound.old }
 {
     let Some(id) = stated else {
         return true;
     };
-    patterns
-        .match_terms(terms, bound, place, &[id as u32])
-        .is_some()
+    patterns.match_all(terms, bound, place, &[id as u32])
 }
 
 impl Said {
     // Question 38: the stated conclusion matches the rule's, where one is stated, and the terms its premises; then it is the conclusion, or the rule's is
-    // built. What was matched is bound where it stands, of no use afterwards: a copy of what the items say took 2 % of a check
-    // of a thousand steps (counted without proof).
+    // built. What was matched is bound where it stands; a refusal leaves what the items say.
     fn matched(
         &mut self,
         patterns: &Patterns<'_>,
@@ -109,20 +107,26 @@ impl Said {
         ensures same_tables { SameTables store.old store.new }
         ensures read_as { (g : ConcludableIn patterns.now store.old self.old first place ids.now) → let M = made_of store.old in
             ReadAs store.old store.new (concluded g.rule (args_of M ids.now) (stated_in M self.old.stated) (bound_of M (cells_of self.old.bound)) M) result }
+        ensures set_back { OnErr result (self.new ≡ self.old) }
     {
+        let before = self.bound;
         let terms = store.terms();
         if !match_stated(patterns, &terms, &mut self.bound, place, self.stated) {
             return Err(Question::Matching);
         }
-        if patterns
-            .match_terms(&terms, &mut self.bound, first, ids)
-            .is_none()
-        {
+        if !patterns.match_all(&terms, &mut self.bound, first, ids) {
+            self.bound = before;
             return Err(Question::Matching);
         }
         match self.stated {
             Some(id) => Ok(id),
-            None => Ok(patterns.build(store, &self.bound, place)?.term),
+            None => match patterns.build(store, &self.bound, place) {
+                Ok(built) => Ok(built.term),
+                Err(question) => {
+                    self.bound = before;
+                    Err(question)
+                }
+            },
         }
     }
 }

@@ -1,6 +1,6 @@
 // Rules' patterns over the store (specs/Patterns.antt says how words stand for a pattern, and what is bound for the definition's bindings). A
 // pattern is read in prefix notation from a place on, and each function finds the place behind it on the way.
-ghost use Rattle.std.specs.Prelude.{◌≡◌, ◌*◌, ◌<◌, length};
+ghost use Rattle.std.specs.Prelude.{◌≡◌, ◌*◌, ◌<◌, length, IsFalse};
 ghost use Rattle.rules.specs.Limits.{SYMBOLS};
 ghost use Rattle.terms.specs.Lent.{SameTables};
 ghost use Rattle.terms.specs.Patterns.{arity, args_by_table, SkippableIn, SkippedIn, MatchableIn, AllMatchableIn, TriedIn, AllTriedIn, AllMatchedIn, BuildableIn, BuiltIn};
@@ -119,11 +119,11 @@ impl Patterns<'_> {
         Some(place)
     }
 
-    // Patterns from `at` on against as many terms: whether all match; if not, what is bound is as it was. Public and promised; nothing here calls
-    // it, since what is bound without a match is of no use to a step.
+    // Patterns from `at` on against as many terms: whether all match; if not, what is bound is as it was.
     pub fn match_all(&self, terms: &Terms<'_>, bound: &mut Bound, at: usize, ids: &[u32]) -> bool
         requires { AllMatchableIn self.now terms.now bound.old at ids.now }
-        ensures { AllMatchedIn self.now terms.now bound.old bound.new at ids.now result }
+        ensures matched { AllMatchedIn self.now terms.now bound.old bound.new at ids.now result }
+        ensures set_back { IsFalse result → bound.new ≡ bound.old }
     {
         let old = *bound;
         if self.match_terms(terms, bound, at, ids).is_some() {
