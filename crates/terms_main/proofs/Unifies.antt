@@ -1,5 +1,5 @@
 -- What unification asks of fresh tables, and what it did to the store. Assumes nothing.
-use Rattle.std.proofs.Common.{◌≡◌, ℕ, ◌*◌, ◌<◌, List, replicate, Bool, true, false, Option, Result, Ok, arith}
+use Rattle.std.proofs.Common.{◌≡◌, ℕ, ◌*◌, ◌<◌, List, replicate, Bool, true, false, Option, Result, Ok, Err, arith}
 use Rattle.rules.specs.Limits.{TERMS, VARIABLES, PAIRS, TERMWORDS}
 use Rattle.rules.specs.Out.{Out}
 use Rattle.rules.specs.Store.{Made}
@@ -10,7 +10,7 @@ use Rattle.terms.specs.Table.{Good, Grown}
 use Rattle.terms.specs.Theta.{Theta}
 use Rattle.terms.specs.Laws.Terms.{variables_few}
 use Rattle.unification.specs.Unify.{Unifiable, UnifiedBy}
-use Rattle.unification.specs.Laws.Answers.{unified_found, unified_apart}
+use Rattle.unification.specs.Laws.Answers.{unified_found}
 use Rattle.terms_main.proofs.Tables.{zeroed}
 
 module _ {I W : List ℕ} {m : Mark} {s t : ℕ} (good : Good I W m) (left : s < m.terms) (right : t < m.terms) where
@@ -39,11 +39,14 @@ module _ {I W : List ℕ} {m : Mark} {s t : ℕ} (good : Good I W m) (left : s <
             };
       }
 
-module _ {I W J X : List ℕ} {old new : Mark} {theta : List ℕ} {K : Out Made (Option (List Binding))} {r : Result Bool Row} (u : UnifiedBy I W J X old new theta K r) where
-  pub unified_grown : (found : Bool) → r ≡ Ok found → Grown I W J X old new
-  unified_grown true e = (unified_found u e).grown
-  unified_grown false e = (unified_apart u e).0.grown
+-- on refusals too
+pub unified_grown : {I W J X : List ℕ} {old new : Mark} {theta : List ℕ} {K : Out Made (Option (List Binding))} {r : Result Bool Row} → UnifiedBy I W J X old new theta K r
+    → Grown I W J X old new
+unified_grown {r = Ok true} u = u.says.grown
+unified_grown {r = Ok false} u = u.says.0.grown
+unified_grown {r = Err row} u = u.says.0.grown
 
+module _ {I W J X : List ℕ} {old new : Mark} {theta : List ℕ} {K : Out Made (Option (List Binding))} {r : Result Bool Row} (u : UnifiedBy I W J X old new theta K r) where
   pub unified_bound : (found : Bool) → r ≡ Ok found → found ≡ true → Theta new theta
   unified_bound true e b = (unified_found u e).cells
   unified_bound false e b = cc b

@@ -1,4 +1,5 @@
 use Rattle.std.proofs.Common.{◌∙◌, rules}
+use Rattle.terms.specs.Laws.Growth.{grown_refl}
 use Rattle.terms_main.proofs.Kept.{ok_before}
 use Rattle.terms_main.proofs.Tables.{theta_front}
 use Rattle.terms_main.proofs.Unifies.{unifiable, unified_grown, unified_bound}
@@ -14,15 +15,31 @@ unify-requires c =
 
 pub returns-then-not-found-clause-kept : goal.returns-then-not-found-clause-kept
 returns-then-not-found-clause-kept c =
-    let grown = unified_grown c.unify.ensures.unified_by c.in_ok-found.found (ok_before _ _ _ c.in_ok-found.ensures.cases) in
-    record { good = grown.good; more = grown.more }
+    unified_grown c.unify.ensures.unified_by
 
 pub returns-clause-kept : goal.returns-clause-kept
 returns-clause-kept c =
-    let grown = unified_grown c.unify.ensures.unified_by c.in_ok-found.found (ok_before _ _ _ c.in_ok-found.ensures.cases) in
-    record { good = grown.good; more = grown.more }
+    unified_grown c.unify.ensures.unified_by
 
 pub returns-clause-bound : goal.returns-clause-bound
 returns-clause-bound c =
     let bound = unified_bound c.unify.ensures.unified_by c.in_ok-found.found (ok_before _ _ _ c.in_ok-found.ensures.cases) (search rules) in
     theta_front _ _ c.in_ok-theta.ensures.len bound
+
+pub returns-in_err-theta-clause-kept : goal.returns-in_err-theta-clause-kept
+returns-in_err-theta-clause-kept c = grown_refl c.requires.0
+
+pub returns-in_err-map-clause-kept : goal.returns-in_err-map-clause-kept
+returns-in_err-map-clause-kept c = grown_refl c.requires.0
+
+pub returns-in_err-memo-clause-kept : goal.returns-in_err-memo-clause-kept
+returns-in_err-memo-clause-kept c = grown_refl c.requires.0
+
+pub returns-in_err-pairs-clause-kept : goal.returns-in_err-pairs-clause-kept
+returns-in_err-pairs-clause-kept c = grown_refl c.requires.0
+
+pub returns-in_err-seen-clause-kept : goal.returns-in_err-seen-clause-kept
+returns-in_err-seen-clause-kept c = grown_refl c.requires.0
+
+pub returns-in_err-found-clause-kept : goal.returns-in_err-found-clause-kept
+returns-in_err-found-clause-kept c = unified_grown c.unify.ensures.unified_by

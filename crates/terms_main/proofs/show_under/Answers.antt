@@ -1,7 +1,8 @@
 use Rattle.std.proofs.Common.{◌∙◌, arith, rules}
 use Rattle.rules.specs.Limits.{TERMS}
 use Rattle.terms.specs.Laws.Answers.{after_term}
-use Rattle.terms_main.proofs.Kept.{ok_before}
+use Rattle.terms.specs.Laws.Growth.{grown_refl}
+use Rattle.terms_main.proofs.Kept.{ok_before, after_grown}
 use Rattle.terms_main.proofs.Tables.{zeroed, theta_later}
 use Rattle.terms_main.proofs.show_under.Goals as goal
 
@@ -16,13 +17,23 @@ show_line-requires g c =
     let stored = after_term c.substitute.ensures.kept kept in
     rw c.terms.ensures (stored.grown.good, stored.there)
 
+pub returns-in_err-memo-clause-kept : goal.returns-in_err-memo-clause-kept
+returns-in_err-memo-clause-kept g c = grown_refl c.requires.good.0
+
+pub returns-in_err-under-clause-kept : goal.returns-in_err-under-clause-kept
+returns-in_err-under-clause-kept g c = after_grown c.substitute.ensures.kept
+
+pub returns-in_err-under-clause-bound : goal.returns-in_err-under-clause-bound
+returns-in_err-under-clause-bound g c = theta_later c.requires.bound (after_grown c.substitute.ensures.kept).more
+
+pub returns-in_err-show_line-clause-kept : goal.returns-in_err-show_line-clause-kept
+returns-in_err-show_line-clause-kept g c = after_grown c.substitute.ensures.kept
+
+pub returns-in_err-show_line-clause-bound : goal.returns-in_err-show_line-clause-bound
+returns-in_err-show_line-clause-bound g c = theta_later c.requires.bound (after_grown c.substitute.ensures.kept).more
+
 pub returns-clause-kept : goal.returns-clause-kept
-returns-clause-kept g c =
-    let kept = ok_before _ _ _ c.in_ok-under.ensures.cases in
-    let stored = after_term c.substitute.ensures.kept kept in
-    record { good = stored.grown.good; more = stored.grown.more }
+returns-clause-kept g c = after_grown c.substitute.ensures.kept
 
 pub returns-clause-bound : goal.returns-clause-bound
-returns-clause-bound g c =
-    let kept = ok_before _ _ _ c.in_ok-under.ensures.cases in
-    theta_later c.requires.bound (after_term c.substitute.ensures.kept kept).grown.more
+returns-clause-bound g c = theta_later c.requires.bound (after_grown c.substitute.ensures.kept).more
