@@ -1,11 +1,13 @@
 -- The walk of `count` and the loop of `place`, as steps from item to item. Assumes nothing.
 use mathlib.Core.Path.{◌≡◌, refl, sym, ap, ◌∙◌}
+use mathlib.Core.Bool.{false, true≢false}
 use Prim.Native.Nat.{ℕ, zero, suc, ◌+◌, ◌-◌, ◌≤◌, ◌<◌}
 use mathlib.Core.List.{List, [], ◌∷◌}
 use native.Mathlib.Omega.{arith}
 use lib.ListN.{length}
 use denote.Ref.{Bor}
 use Rattle.std.specs.Iterator.{Yields}
+use Rattle.std.specs.Option.{is_some}
 use Rattle.std.specs.Prelude.{Option, Some, None}
 use Rattle.rules.specs.Sexp.{Sexp, Sexps, nil, cons, count, item}
 use Rattle.rules.specs.Laws.Sexp.{count_cons}
@@ -93,6 +95,17 @@ pub seek_next :
     (t.cells.now ≡ words) × Seeks words number t.at (n - 1)
 seek_next s t (Some x) e k p w = let h = here e w in (h.same, seek_on k h.inside p t.at h.behind)
 seek_next s t None e k p w = rw w.same (e, seek_over k (over e w))
+
+-- none is left behind the last item: its place is that of each number from there on
+pub seek_none :
+    {words : List ℕ} {number n : ℕ} (s t : Each) (o : Option (Bor (List ℕ))) → s.cells.now ≡ words → Seeks words number s.at n → Walks s o t → is_some o ≡ false →
+    (xs : Sexps) → words ≡ encodes xs → t.at ≡ place xs number
+unfolding place
+seek_none s t (Some x) e k w b = absurd (true≢false b)
+seek_none {n = n} s t None e k w b =
+    λ xs f.
+    let h = k xs f in
+    rw w.same (omega (arith, h.sum, ap (λ y. place y n) (at_over h.left h.here (over e w))))
 
 -- the item that is found
 pub nth_inside : {words : List ℕ} {number : ℕ} (h : Reaches words number) (at : ℕ) → ((xs : Sexps) → words ≡ encodes xs → at ≡ place xs number) → at < length words

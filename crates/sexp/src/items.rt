@@ -96,14 +96,17 @@ pub fn count(words: &[u32]) -> usize
     all(words).count()
 }
 
-// Where the item with that number begins, counted from 0, and with it the rest of the list; `next` stands still at the end. Not by `all(words).nth(number)`,
-// which is no plainer: it gives the cells from there on, and none behind the last item, so that the place would be a difference of two lengths, or the length.
+// Where the item with that number begins, counted from 0, and with it the rest of the list. At the end, where `next` stands still, it stops, however large the
+// number is. Not by `all(words).nth(number)`, which is no plainer: it gives the cells from there on, and none behind the last item, so that the place would be
+// a difference of two lengths, or the length.
 pub fn place(words: &[u32], number: usize) -> usize
     ensures { (xs : Sexps) → words.now ≡ encodes xs → result ≡ place xs number }
 {
     let mut items = all(words);
     for _k in 0..number {
-        items.next();
+        if items.next().is_none() {
+            return items.at;
+        }
     }
     items.at
 }
