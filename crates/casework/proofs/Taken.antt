@@ -48,12 +48,13 @@ module _ (n : ℕ) (t : NameTree) (p : t.places.now ≡ replicate n 0) (k : t.li
 
   pub kept_none : n ≤ LENGTH → Kept t []
   kept_none l = record {
+    even = ap length k ∙ sym (ap length p);
     short = let e = ap length p ∙ length-replicate {A = ℕ} n 0 in omega (arith, e, l);
     few = omega (arith, m);
     named = λ _ r. record {
       tree = record {
         even = ap length k ∙ sym (ap length p);
-        room = omega (arith, r);
+        room = omega (arith, r, m);
         known = λ c. let e = no_link c in omega (arith, e);
         rise = λ c h. let e = no_link c in absurd (omega (arith, e, h));
         low = λ i s h. absurd (omega (arith, s, h, m));
@@ -63,6 +64,8 @@ module _ (n : ℕ) (t : NameTree) (p : t.places.now ≡ replicate n 0) (k : t.li
       many = sym m;
       each = λ i h. absurd (omega (arith, h));
     };
+    least = omega (arith, m);
+    counted = λ _ _. sym m;
   }
 
 -- What `is_taken` learns -----------------------------------------------------------------------------------------------------------------------
@@ -73,13 +76,23 @@ module _ {t : NameTree} {cells : List ℕ} (g : Naming t cells) where
       (length t.text.now ≤ LENGTH → 2 * t.many + 4 ≤ length t.places.now → ⊥) → TakenAs t g.first.cs name r
   taken_among name e q = record {
     is = e;
-    more = λ y c m. record { short = g.kept.short; few = g.kept.few; named = λ a l. absurd (q a l) };
+    more = λ y c m.
+        let n = length-append g.first.cs (c ∷ []) in
+        let k = g.kept.least in
+        record {
+          even = g.kept.even;
+          short = g.kept.short;
+          few = g.kept.few;
+          named = λ a l. absurd (q a (omega (arith, l, n, k)));
+          least = omega (arith, n, k);
+          counted = λ a l. absurd (q a l);
+        };
   }
 
   -- they have
   module _ (a : length t.text.now ≤ LENGTH) (l : 2 * t.many + 4 ≤ length t.places.now) where
     names_now : Named t g.first.cs
-    names_now = g.kept.named a l
+    names_now = g.kept.named a (let z = g.kept.counted a l in omega (arith, z, l))
 
     is_met : (name : List ℕ) → IsMet t.text.now t.places.now t.many name → true ≡ any (λ (d : Case). same d.name name) g.first.cs
     is_met name m =
@@ -118,17 +131,23 @@ module _ {t : NameTree} {cells : List ℕ} (g : Naming t cells) where
       tree_more : TreeIn u
       tree_more = rw (w.text, e.count) e.tree
 
+      counted_more : (c : Case) → length (g.first.cs ++ (c ∷ [])) ≡ u.many
+      counted_more c = let z = names_now.many in let n = length-append g.first.cs (c ∷ []) in omega (arith, z, n, e.count)
+
       kept_more : (c : Case) → c.name ≡ name → Kept u (g.first.cs ++ (c ∷ []))
       kept_more c m = record {
+        even = let v = g.kept.even in omega (arith, v, w.long, w.wide);
         short = let s = g.kept.short in omega (arith, w.long, s);
         few = omega (arith, e.count, w.long, l);
         named = λ _ _. record {
           tree = tree_more;
-          many = let z = names_now.many in let n = length-append g.first.cs (c ∷ []) in omega (arith, z, n, e.count);
+          many = counted_more c;
           each = λ k h. same_name (k + 1) ∙ each_more c m k h;
         };
+        least = omega (arith, counted_more c);
+        counted = λ _ _. counted_more c;
       }
 
     pub taken_by_tree : {u : NameTree} → SameNames t u → (name : List ℕ) (r : Bool) → EnteredIn t u name r → TakenAs u g.first.cs name r
-    taken_by_tree w name true m = record { is = is_met name m; more = λ y. absurd (true≢false y) }
+    taken_by_tree w name true m = record { is = is_met name m.0; more = λ y. absurd (true≢false y) }
     taken_by_tree w name false e = record { is = is_new_lem w name e; more = λ y c m. kept_more w name e c m }

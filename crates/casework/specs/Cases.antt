@@ -108,11 +108,14 @@ pub record Named (t : NameTree) (cs : List Case) : Type 0 where
   pub many : length cs ≡ t.many
   pub each : (k : ℕ) → k < length cs → name_of t.text.now t.places.now (k + 1) ≡ (get_or cs k no_case).name
 
--- they are where it has room for one more
+-- they are where its tables have room; where it has room for one more, it has them all
 pub record Kept (t : NameTree) (cs : List Case) : Type 0 where
+  pub even : length t.links.now ≡ length t.places.now
   pub short : length t.places.now ≤ LENGTH
   pub few : 2 * t.many ≤ length t.places.now
-  pub named : length t.text.now ≤ LENGTH → 2 * t.many + 4 ≤ length t.places.now → Named t cs
+  pub named : length t.text.now ≤ LENGTH → 2 * length cs + 2 ≤ length t.places.now → Named t cs
+  pub least : t.many ≤ length cs
+  pub counted : length t.text.now ≤ LENGTH → 2 * t.many + 4 ≤ length t.places.now → length cs ≡ t.many
 
 -- the cells are those of cases, and their names are kept
 pub record Naming (t : NameTree) (cells : List ℕ) : Type 0 where

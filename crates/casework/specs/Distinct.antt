@@ -69,7 +69,7 @@ pub record Entered (text places places' links' : List ℕ) (many many' : ℕ) (n
   pub count : many' ≡ many + 1
 
 abbrev pub EnteredAs : List ℕ → List ℕ → List ℕ → List ℕ → ℕ → ℕ → List ℕ → Bool → Type 0
-EnteredAs text places places' links' many many' name true = IsMet text places many name
+EnteredAs text places places' links' many many' name true = IsMet text places many name × (many' ≡ many)
 EnteredAs text places places' links' many many' name false = Entered text places places' links' many many' name
 
 -- The tree as it is lent -------------------------------------------------------------------------------------------------------------------------

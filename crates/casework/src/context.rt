@@ -176,6 +176,7 @@ impl<'a> Grounds<'a> {
         ensures under_as { (g : RecallsIn facts.now (terms_of store.old)) →
             PutUnder store.old store.new g.S map.now h self.old self.new result }
         ensures memo_unchanged { memo.new ≡ memo.old }
+        ensures own { self.new.own ≡ self.old.own }
     {
         substitute_all(store, map, memo, facts.premises(h), ids)?;
         let judgment = substitute(store, map, memo, judgment(facts.records, h))?;
@@ -203,6 +204,7 @@ impl<'a> Grounds<'a> {
         ensures under_as { (g : RecallsIn facts.now (terms_of store.old)) →
             PutUnder store.old store.new g.S map.now h self.old self.new result }
         ensures memo_unchanged { (memo.new ≡ memo.old) × (ids.new ≡ ids.old) }
+        ensures own { self.new.own ≡ self.old.own }
     {
         let many = facts.premises(h).len();
         let answer = self.fact_under(facts, store, map, memo, h, &mut ids[..many]);
@@ -226,6 +228,7 @@ impl<'a> Grounds<'a> {
             ContextAs Allowed store.old store.new g.S
             (context_fact (bindings (made_of store.old) theta.now 0) (fact_of g.S h) (made_of store.old)) one self.old self.new result }
         ensures memo_unchanged { (memo.new ≡ memo.old) × (ids.new ≡ ids.old) }
+        ensures own { self.new.own ≡ self.old.own }
     {
         let variables = facts.general(h);
         if variables.is_empty() {
@@ -256,6 +259,7 @@ impl<'a> Grounds<'a> {
             ContextAs (List Allowed) store.old store.new g.S
             (context_facts g.S (bindings (made_of store.old) theta.now 0) context.now (made_of store.old)) all_of self.old self.new result }
         ensures memo_unchanged { (memo.new ≡ memo.old) × (ids.new ≡ ids.old) }
+        ensures own { self.new.own ≡ self.old.own }
     {
         for h in context {
             self.context_fact(facts, store, theta, memo, *h as usize, ids)?;
@@ -281,6 +285,7 @@ impl<'a> Grounds<'a> {
             (rule_premises (renaming g.xs) (along (bindings (made_of store.old) renamed.now.theta.now 0)) (rule g.T renamed.now.rule).premises
             (made_of store.old)) self.old self.new result }
         ensures memo_unchanged { memo.new ≡ memo.old }
+        ensures others { (self.new.own ≡ self.old.own) × (self.new.fine ≡ self.old.fine) }
     {
         let theta = renamed.theta;
         let mut place = rules.words(renamed.rule).from;
