@@ -1,11 +1,12 @@
 -- Cleared tables: they are those of a theory that declares nothing, and of a check that has nothing but a theory. Assumes nothing.
 use mathlib.Core.Path.{◌≡◌, refl, sym, ap, ◌∙◌, subst}
-use mathlib.Core.List.{List, []}
-use Prim.Native.Nat.{ℕ, ◌*◌, ◌≤◌}
+use mathlib.Core.List.{List, [], ◌++◌, append-nil}
+use Prim.Native.Nat.{ℕ, ◌-◌, ◌*◌, ◌≤◌}
 use native.Mathlib.Omega.{arith}
-use lib.ListN.{length, replicate}
+use lib.ListN.{length, take, replicate, drop_of_length-le}
 use Rattle.facts.specs.declared.Fact.{Fact}
-use Rattle.facts.specs.Table.{blank}
+use Rattle.facts.specs.Table.{blank, zeroed}
+use Rattle.facts.specs.Laws.{zeroed_is}
 use Rattle.state.specs.Records.{rows_blank, fact_row, fact_foot, fact_rows, fact_feet, length_fact_rows}
 use Rattle.rules.specs.Limits.{LENGTH, SORTS, SYMBOLS, ARGUMENTS, RULES, RULEVARS, PATTERNS, VARIABLES, TERMS, WORDS, DEFS, GOALS, FACTS, ENTRIES}
 use Rattle.rules.specs.Theory.{Theory, no_theory, rule_words}
@@ -83,11 +84,24 @@ nothing_held text =
 
 -- The others -------------------------------------------------------------------------------------------------------------------------
 
-pub blank_rows : (fs gs : List Fact) → length (fact_rows fs) ≡ 6 * FACTS → gs ≡ replicate (length fs) blank →
+pub facts_many : (fs : List Fact) → length (fact_rows fs) ≡ 6 * FACTS → length fs ≡ FACTS
+facts_many fs l = omega (arith, length_fact_rows fs, l)
+
+-- all of them made blank
+zeroed_all : (fs : List Fact) (n : ℕ) → length fs ≡ n → zeroed fs 0 n ≡ replicate n blank
+zeroed_all fs n l =
+    zeroed_is fs 0 n
+    ∙ ap (λ (r : List Fact). take 0 fs ++ (replicate (n - 0) blank ++ r)) (drop_of_length-le fs {i = n} (omega (arith, l)))
+    ∙ append-nil (replicate (n - 0) blank)
+    ∙ ap (λ (k : ℕ). replicate k blank) whole
+  where
+    whole : n - 0 ≡ n
+    whole = omega arith
+
+pub blank_rows : (fs gs : List Fact) → length (fact_rows fs) ≡ 6 * FACTS → gs ≡ zeroed fs 0 FACTS →
     (fact_rows gs ≡ replicate (6 * FACTS) 0) × (fact_feet gs ≡ replicate (4 * FACTS) 0)
 blank_rows fs gs l e =
-    let many : length fs ≡ FACTS = omega (arith, length_fact_rows fs, l) in
-    let q : gs ≡ replicate FACTS blank = e ∙ ap (λ (k : ℕ). replicate k blank) many in (
+    let q : gs ≡ replicate FACTS blank = e ∙ zeroed_all fs FACTS (facts_many fs l) in (
       ap fact_rows q ∙ rows_blank fact_row 6 (λ f. refl) blank refl FACTS,
       ap fact_feet q ∙ rows_blank fact_foot 4 (λ f. refl) blank refl FACTS,
     )

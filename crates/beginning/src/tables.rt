@@ -9,8 +9,9 @@ ghost use Rattle.state.specs.Stands.{tables_of};
 ghost use Rattle.beginning.specs.Opened.{Lending, Cleared};
 
 use cells::clear;
-use facts::Fact;
+use facts::zero_behind;
 use kernel::tables::{Counts, Tables};
+use rules::FACTS;
 use state::board::Board;
 use state::sizes::Sizes;
 use terms::store::{Mark, Store};
@@ -40,7 +41,7 @@ pub fn clear_board(board: &mut Board<'_>, store: &mut Store<'_>)
     clear(store.words);
     clear(board.defs);
     clear(board.rows);
-    board.facts.fill(Fact::BLANK);
+    zero_behind(board.facts, 0, FACTS);
     clear(board.lists);
     store.mark = Mark::NONE;
     board.n = Sizes::from(Counts::NONE);
