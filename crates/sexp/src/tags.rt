@@ -79,7 +79,7 @@ static PROOF: [Row<Tag>; 10] = [
         name: b"hyp",
         least: 5,
         most: Some(5),
-        index: Some(1),
+        index: Some(1), // of a hypothesis with premises
         tag: Tag::RuleHyp,
     },
     Row {
@@ -107,7 +107,7 @@ static PROOF: [Row<Tag>; 10] = [
         name: b"invert",
         least: 6,
         most: Some(6),
-        index: Some(1),
+        index: Some(1), // of an inversion
         tag: Tag::Invert,
     },
     Row {
