@@ -1,4 +1,5 @@
-use Rattle.std.proofs.Common.{refl, rules, tests}
+use Rattle.std.proofs.Common.{refl, subst, rules, tests}
+use Rattle.casework.specs.Cases.{CaseFound}
 use Rattle.casework.proofs.Finding.{stands_start, serves_cases, first_case}
 use Rattle.casework.proofs.cases.find_case.Goals as goal
 
@@ -8,5 +9,7 @@ find-requires-clause-callable c = serves_cases c.requires (stands_start c.requir
 pub returns : goal.returns
 returns c = λ g.
     let (xs, j, (t, gives, ends), says, last) = c.find.ensures.ran in
+    let e =
     first_case g _ c.args.name.now xs t _ j c.find.result (stands_start g c.all.ensures.0 c.all.ensures.1) refl gives ends says last
-    (λ x b q k. (search (rules, tests), (k.shown.now, k.shows, λ h. search (rules, tests, h))))
+    (λ x b q k. (search (rules, tests), (k.shown.now, k.shows, λ h. search (rules, tests, h)))) in
+    subst (λ r. CaseFound g.vs c.args.text.now c.args.cells.now g.cs c.args.name.now r) (search (rules, tests)) e
