@@ -6,7 +6,7 @@ use Prim.Native.Nat.{ℕ, ◌+◌, ◌<◌, ◌≤◌}
 use native.Mathlib.Omega.{arith}
 use native.Mathlib.Decide.{ℕ_discrete}
 use lib.ListN.{length, get_or, set, replicate, length-replicate}
-use lib.Seq.{get_or-set_same, get_or-set_other}
+use lib.Seq.{get_or-set_same, get_or-set_other, set-set, set-get_or}
 use borrow.Author.Tests.{eq-eqb, ne_eqb}
 use Rattle.std.specs.Prelude.{Result, Ok, Err}
 use Rattle.rules.specs.Limits.{VARIABLES}
@@ -27,7 +27,7 @@ use Rattle.terms.specs.Laws.Zeros.{get_d_zeros}
 use Rattle.referring.specs.Substitutes.{Replaceables, Replaced}
 use Rattle.terms.specs.Laws.Below.{below_grown}
 use Rattle.referring.specs.Laws.Substitutes.{replaceable_now}
-use Rattle.induction.specs.Inducing.{Moved, MovedBy, judgment_first, premises_first}
+use Rattle.induction.specs.Inducing.{PutAt, Moved, MovedBy, judgment_first, premises_first}
 
 -- what an answer says behind what went before
 pub moved_on : {I W J X : List ℕ} {old now : Mark} {K L : Out Made Hyp} (Y Z out : List ℕ) (new : Mark) (r : Result ℕ Row) → On I W old K J X now L →
@@ -116,6 +116,14 @@ only x t = set (replicate VARIABLES 0) x (t + 1)
 
 zeros_long : length (replicate {A = ℕ} VARIABLES 0) ≡ VARIABLES
 zeros_long = length-replicate {A = ℕ} VARIABLES 0
+
+-- no cell is any
+pub put_none : (x : ℕ) → PutAt x (replicate VARIABLES 0)
+put_none x = (0, sym (ap (set (replicate VARIABLES 0) x) (sym (get_d_zeros VARIABLES x)) ∙ set-get_or (replicate VARIABLES 0) x 0))
+
+-- a term comes in the place of another
+pub put_over : {map after : List ℕ} (x c : ℕ) → PutAt x map → after ≡ set map x c → after ≡ set (replicate VARIABLES 0) x c
+put_over x c p e = e ∙ ap (λ l. set l x c) p.1 ∙ set-set (replicate VARIABLES 0) x p.0 c
 
 pub one_cell : (M : Made) (x t : ℕ) → x < VARIABLES → replacement M (only x t) ≡ single x (get_or M t (var 0))
 unfolding single

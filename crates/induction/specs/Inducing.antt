@@ -1,6 +1,6 @@
 -- What the form `induct` is given and what its parts answer: the motive in the store, a case's terms, and what a case may rest on. Assumes nothing.
 use Rattle.state.specs.Records.{fact_rows, fact_feet}
-use Rattle.std.specs.Prelude.{◌≡◌, Bool, true, false, ◌&&◌, ◌||◌, List, [], ◌∷◌, ℕ, zero, suc, ◌*◌, ◌<◌, ◌≤◌, eqb, length, get_or, take, drop, replicate, Some as some, None as nothing, Result, Ok, Err}
+use Rattle.std.specs.Prelude.{◌≡◌, Bool, true, false, ◌&&◌, ◌||◌, List, [], ◌∷◌, ℕ, zero, suc, ◌*◌, ◌<◌, ◌≤◌, eqb, length, get_or, set, take, drop, replicate, Some as some, None as nothing, Result, Ok, Err}
 use Rattle.rules.specs.Limits.{ARGUMENTS, VARIABLES, FACTS, SYMBOLS, TERMS}
 use Rattle.rules.specs.Out.{Out, ok, refuse, Act, ◌>>=◌, pure, ask}
 use Rattle.rules.specs.Find.{entry, any, all}
@@ -45,6 +45,10 @@ Blank memo ids = (memo ≡ replicate TERMS 0) × (ids ≡ replicate IDS 0)
 -- enough of them for a case: at most ARGUMENTS induction hypotheses, of so many premises and a judgment each
 abbrev pub Roomy : ℕ → List ℕ → Type 0
 Roomy width ids = ARGUMENTS * suc width ≤ length ids
+
+-- a map that has a term for variable x at most
+abbrev pub PutAt : ℕ → List ℕ → Type 0
+PutAt x map = (c : ℕ) × (map ≡ set (replicate VARIABLES 0) x c)
 
 -- The motive -------------------------------------------------------------------------------------------------------------------------
 

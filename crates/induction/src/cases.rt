@@ -6,7 +6,7 @@ ghost use Rattle.rules.specs.Induct.{hypothesis_at, hypotheses};
 ghost use Rattle.terms.specs.Table.{Below};
 ghost use Rattle.terms.specs.Lent.{SameTables, KeptAs, made_of};
 ghost use Rattle.terms.specs.Subst.{replacement};
-ghost use Rattle.induction.specs.Inducing.{motive_of, MotivedIn, CasingIn, MovableIn, MovedAs, judgment_first, premises_first, var_trees, keep_case, at_constructor, HypsMadeAs};
+ghost use Rattle.induction.specs.Inducing.{motive_of, MotivedIn, CasingIn, MovableIn, MovedAs, judgment_first, premises_first, var_trees, keep_case, at_constructor, HypsMadeAs, PutAt};
 
 use crate::motive::Motive;
 use questions::Row;
@@ -33,14 +33,13 @@ fn keep_case(store: &mut Store<'_>, c: usize, own: &[u32]) -> Result<usize, Row>
 }
 
 impl Motive<'_> {
-    // The map that puts term t for the variable: 0 for none and a number with 1 added, what `substitute` reads.
-    fn putting(&self, t: usize) -> [u32; VARIABLES]
-        requires { (self.now.x < VARIABLES) × (t < TERMS) }
-        ensures { result ≡ set (replicate VARIABLES 0) self.now.x (t + 1) }
+    // Term t comes into the map for the variable: 0 for none and a number with 1 added, what `substitute` reads. The map is lent, and has no other variable
+    // before: made anew for each term it was set to zero and copied, a fifth of what a long `induct` took.
+    fn put(&self, map: &mut [u32; VARIABLES], t: usize)
+        requires { PutAt self.now.x map.old × (self.now.x < VARIABLES) × (t < TERMS) }
+        ensures { map.new ≡ set (replicate VARIABLES 0) self.now.x (t + 1) }
     {
-        let mut map = [0; VARIABLES];
         map[self.x] = (t + 1) as u32;
-        map
     }
 
     // The judgment under the substitution `map`, then the premises, whose numbers come into `out`; what is answered is the judgment's number. `memo` is
@@ -88,17 +87,21 @@ impl Motive<'_> {
         store: &mut Store<'_>,
         c: usize,
         own: &[u32],
+        map: &mut [u32; VARIABLES],
         memo: &mut [u32],
         out: &mut [u32],
     ) -> Result<usize, Row>
         requires casing { CasingIn store.old c own.now × MotivedIn store.old self.now }
+        requires put { PutAt self.now.x map.old }
         requires memo_value { (memo.old ≡ replicate TERMS 0) × (length out.old ≡ length self.now.premises.now) }
         ensures same_tables { SameTables store.old store.new }
         ensures moved_as { let M = made_of store.old in MovedAs store.old store.new (at_constructor (motive_of M self.now) c own.now M) out.new result }
         ensures memo_unchanged { memo.new ≡ memo.old }
+        ensures put { PutAt self.now.x map.new }
     {
         let t = keep_case(store, c, own)?;
-        self.judgment_first(store, &self.putting(t), memo, out)
+        self.put(map, t);
+        self.judgment_first(store, map, memo, out)
     }
 
     // The motive at the variable v: the premises' numbers come into `out`; what is answered is the judgment's.
@@ -106,17 +109,21 @@ impl Motive<'_> {
         &self,
         store: &mut Store<'_>,
         v: usize,
+        map: &mut [u32; VARIABLES],
         memo: &mut [u32],
         out: &mut [u32],
     ) -> Result<usize, Row>
         requires motived { MotivedIn store.old self.now × (v < VARIABLES) }
+        requires put { PutAt self.now.x map.old }
         requires memo_value { (memo.old ≡ replicate TERMS 0) × (length out.old ≡ length self.now.premises.now) }
         ensures same_tables { SameTables store.old store.new }
         ensures moved_as { let M = made_of store.old in MovedAs store.old store.new (hypothesis_at (motive_of M self.now) v M) out.new result }
         ensures memo_unchanged { memo.new ≡ memo.old }
+        ensures put { PutAt self.now.x map.new }
     {
         let t = store.keep_var(v)?;
-        self.premises_first(store, &self.putting(t), memo, out)
+        self.put(map, t);
+        self.premises_first(store, map, memo, out)
     }
 
     // One for each variable of the motive's own sort, one behind the other in `ids`: the premises, then the judgment. What is answered is where they end.
@@ -125,15 +132,18 @@ impl Motive<'_> {
         store: &mut Store<'_>,
         own: &[u32],
         sorts: &[u32],
+        map: &mut [u32; VARIABLES],
         memo: &mut [u32],
         ids: &mut [u32],
     ) -> Result<usize, Row>
         requires motived { MotivedIn store.old self.now × (memo.old ≡ replicate TERMS 0) }
+        requires put { PutAt self.now.x map.old }
         requires below { Below VARIABLES own.now × (length sorts.now ≡ length own.now) × (length own.now * suc (length self.now.premises.now) ≤ length ids.old) }
         ensures same_tables { SameTables store.old store.new }
         ensures hyps_made_as { let M = made_of store.old in
             HypsMadeAs store.old store.new (hypotheses (motive_of M self.now) own.now sorts.now M) (length self.now.premises.now) (length own.now) ids.new result }
         ensures memo_unchanged { memo.new ≡ memo.old }
+        ensures put { PutAt self.now.x map.new }
     {
         // `at` is answered: with `chunks_exact_mut` beside a filtered walk the variables would be counted by a second walk, and what is written through it
         // is not known behind the loop
@@ -143,7 +153,7 @@ impl Motive<'_> {
                 continue;
             }
             let end = at + self.premises.len();
-            let t = self.hypothesis_at(store, *v as usize, memo, &mut ids[at..end])?;
+            let t = self.hypothesis_at(store, *v as usize, map, memo, &mut ids[at..end])?;
             ids[end] = t as u32;
             at = end + 1;
         }

@@ -5,7 +5,7 @@ ghost use Rattle.rules.specs.Theory.{constructors};
 ghost use Rattle.rules.specs.Induct.{Motive as Proved, motive_vars, case_vars, induct_cases};
 ghost use Rattle.terms.specs.Lent.{SameTables, made_of};
 ghost use Rattle.terms.specs.Sets.{holds};
-ghost use Rattle.induction.specs.Inducing.{Roomy, motive_of, case_behind, CaseIn, Cased, NamesIn, NamedAs, ReadsCase, CaseAs, ReadsCases};
+ghost use Rattle.induction.specs.Inducing.{Roomy, motive_of, case_behind, CaseIn, Cased, NamesIn, NamedAs, ReadsCase, CaseAs, ReadsCases, PutAt};
 ghost use Rattle.reading.specs.Answers.{PassedAs};
 
 use crate::motive::{Motive, Rows};
@@ -15,7 +15,7 @@ use reading::names::index;
 use reading::reader::Reader;
 use referring::references::insert_all;
 use referring::source::{Facts, Source};
-use rules::{ARGUMENTS, TERMWORDS, VARIABLEWORDS};
+use rules::{ARGUMENTS, TERMWORDS, VARIABLES, VARIABLEWORDS};
 use sexp::items;
 use state::vars::var_sort;
 use terms::sets::{has, insert};
@@ -93,23 +93,33 @@ fn case_terms(
     motive: &Motive<'_>,
     used: &[u64; VARIABLEWORDS],
     case: &Case<'_>,
+    map: &mut [u32; VARIABLES],
     memo: &mut [u32],
     ids: &mut [u32],
 ) -> Result<(), Question>
     requires in_case { CaseIn facts.now store.old motive.now used.now }
     requires cased { Cased store.old case.now }
     requires scratch { (memo.old ≡ replicate TERMS 0) × Roomy (length motive.now.premises.now) ids.old }
+    requires put { PutAt motive.now.x map.old }
     ensures same_tables { SameTables store.old store.new }
     ensures passed_as { (g : CaseIn facts.now store.old motive.now used.now) →
         PassedAs store.old store.new (case_behind g.S (motive_of (made_of store.old) motive.now) case.now (made_of store.old)) result }
     ensures memo_unchanged { memo.new ≡ memo.old }
+    ensures put { PutAt motive.now.x map.new }
 {
     let mut plain = [0u64; TERMWORDS];
     let own = &case.own[..case.sorts.len()];
     let width = motive.premises.len();
-    let judgment = motive.at_constructor(store, case.constructor, own, memo, &mut ids[..width])?;
+    let judgment = motive.at_constructor(
+        store,
+        case.constructor,
+        own,
+        map,
+        memo,
+        &mut ids[..width],
+    )?;
     insert_all(&ids[..width], &mut plain);
-    let end = motive.hypotheses(store, own, case.sorts, memo, ids)?;
+    let end = motive.hypotheses(store, own, case.sorts, map, memo, ids)?;
     let rows = Rows {
         cells: &ids[..end],
         width,
@@ -149,12 +159,22 @@ pub fn induct_cases(
     // where the next constructor of the sort is looked for, which is no count; in a zip with the constructors of the sort, each would have to be tied to the
     // question that `next_constructor` answers, and what is left of them told by an invariant
     let mut from = 0;
+    let mut map = [0; VARIABLES];
     for item in items::all(cells) {
         let Some(c) = known.next_constructor(motive.sort, from) else {
             return Ok(());
         };
         let case = read_case(reader, used, c, item)?;
-        case_terms(&source.facts(), store, motive, used, &case, memo, ids)?;
+        case_terms(
+            &source.facts(),
+            store,
+            motive,
+            used,
+            &case,
+            &mut map,
+            memo,
+            ids,
+        )?;
         from = c + 1;
     }
     Ok(())

@@ -2,12 +2,13 @@ use mathlib.Core.Path.{refl, ◌∙◌}
 use native.Mathlib.Omega.{arith}
 use Rattle.kernel.proofs.Handed.{handed}
 use Rattle.sexp.specs.Each.{here, over}
+use Rattle.induction.proofs.Moves.{put_none}
 use Rattle.induction.proofs.CaseLoop.{cases_start, cases_done, cases_over, cases_known, cases_small, cases_item, cases_unread, cases_in, cases_cased, cases_stopped, cases_again}
 use Rattle.induction.proofs.induct_cases.induct_cases.Goals as goal
 
 pub loop-item-init : goal.loop-item-init
 loop-item-init c = rw (c.into_iter-item-iterator.ensures.into_iter_gives, c.all-item-items.ensures.0, c.all-item-items.ensures.1)
-    record { cells = refl; same = (refl, refl); memo = refl; ids = refl; cases = cases_start }
+    record { cells = refl; same = (refl, refl); memo = refl; put = put_none _; ids = refl; cases = cases_start }
 
 pub returns-in_default-clause-passed_as : goal.returns-in_default-clause-passed_as
 returns-in_default-clause-passed_as c =
@@ -53,6 +54,7 @@ loop-item-preserved c =
       cells = h.same;
       same = (c.case_terms.ensures.same_tables.0 ∙ c.loop-item.invariant.same.0, c.case_terms.ensures.same_tables.1 ∙ c.loop-item.invariant.same.1);
       memo = c.case_terms.ensures.memo_unchanged ∙ c.loop-item.invariant.memo;
+      put = c.case_terms.ensures.put;
       ids = c.case_terms.auto.ids ∙ c.loop-item.invariant.ids;
       cases = λ g. cases_again g (c.loop-item.invariant.cases g) h (rw c.symbol_table-known.ensures at c.next_constructor.ensures) c.in-Some-next_constructor.is c.in_ok-case.ensures _ _ _ (rw c.facts.ensures at c.in_ok-case_terms.ensures.passed_as);
     }

@@ -8,7 +8,10 @@ returns-in_err-t-clause-moved_as c =
     rw (p.1, p.2) (built_full c.requires.casing.1 c.args.self.now.sort _ _ c.in_err-t.ensures.kept.says)
 
 pub judgment_first-requires : goal.judgment_first-requires
-judgment_first-requires c = put_movable c.requires.casing.1 c.in_ok-t.ensures.kept.says c.putting.ensures c.requires.memo_value.0 c.requires.memo_value.1
+judgment_first-requires c = put_movable c.requires.casing.1 c.in_ok-t.ensures.kept.says c.put.ensures c.requires.memo_value.0 c.requires.memo_value.1
 
 pub returns-clause-moved_as : goal.returns-clause-moved_as
-returns-clause-moved_as c = built_moved c.requires.casing.1 c.args.self.now.sort _ _ c.in_ok-t.ensures.kept.says c.putting.ensures _ _ _ _ c.judgment_first.result c.judgment_first.ensures.moved_as
+returns-clause-moved_as c = built_moved c.requires.casing.1 c.args.self.now.sort _ _ c.in_ok-t.ensures.kept.says c.put.ensures _ _ _ _ c.judgment_first.result c.judgment_first.ensures.moved_as
+
+pub returns-clause-put : goal.returns-clause-put
+returns-clause-put c = (_, c.put.ensures)

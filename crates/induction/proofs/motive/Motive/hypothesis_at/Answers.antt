@@ -8,7 +8,10 @@ returns-in_err-t-clause-moved_as c =
     rw (p.1, p.2) (supposed_full c.requires.motived.0 c.args.self.now.sort _ c.in_err-t.ensures.kept.says)
 
 pub premises_first-requires : goal.premises_first-requires
-premises_first-requires c = put_movable c.requires.motived.0 c.in_ok-t.ensures.kept.says c.putting.ensures c.requires.memo_value.0 c.requires.memo_value.1
+premises_first-requires c = put_movable c.requires.motived.0 c.in_ok-t.ensures.kept.says c.put.ensures c.requires.memo_value.0 c.requires.memo_value.1
 
 pub returns-clause-moved_as : goal.returns-clause-moved_as
-returns-clause-moved_as c = supposed_moved c.requires.motived.0 c.args.self.now.sort _ c.in_ok-t.ensures.kept.says c.putting.ensures _ _ _ _ c.premises_first.result c.premises_first.ensures.moved_as
+returns-clause-moved_as c = supposed_moved c.requires.motived.0 c.args.self.now.sort _ c.in_ok-t.ensures.kept.says c.put.ensures _ _ _ _ c.premises_first.result c.premises_first.ensures.moved_as
+
+pub returns-clause-put : goal.returns-clause-put
+returns-clause-put c = (_, c.put.ensures)
