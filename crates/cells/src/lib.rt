@@ -78,5 +78,7 @@ pub fn write(to: &mut [u32], from: &[u32])
     requires { length from.now ≤ length to.old }
     ensures { to.new ≡ from.now ++ drop (length from.now) to.old }
 {
-    to[..from.len()].copy_from_slice(from);
+    for (i, cell) in from.iter().enumerate() {
+        to[i] = *cell;
+    }
 }
