@@ -1,0 +1,6 @@
+pub mod Begun
+pub mod Calls
+pub mod Ending
+pub mod Going
+pub mod Lends
+pub mod Parts
