@@ -1,11 +1,9 @@
 -- The end in the named parts of the tables: what is asked of it there, and what it leaves in the whole. Assumes nothing.
 use Rattle.std.specs.Prelude.{◌≡◌, refl, List, ◌++◌, ℕ, ◌*◌, length, take, drop, Option, Some as some, None as nothing, Result, Ok, Err}
 use Rattle.std.proofs.Common.{sym, ap, ◌∙◌, subst, take_at, drop_at, take-append-drop}
-use Rattle.rules.specs.Limits.{VARIABLES, TERMS, WORDS, DEFS, GOALS, FACTS, ENTRIES}
+use Rattle.rules.specs.Limits.{TERMS, GOALS}
 use Rattle.sexp.specs.Never.{never}
-use Rattle.terms.specs.declared.store.Mark.{Mark}
 use Rattle.terms.specs.Table.{settled}
-use Rattle.state.specs.declared.sizes.Sizes.{Sizes}
 use Rattle.state.specs.Stands.{Board}
 use Rattle.facts.specs.declared.Fact.{Fact}
 use Rattle.running.specs.declared.finish.Report.{Report}

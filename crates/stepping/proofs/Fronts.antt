@@ -9,14 +9,13 @@ use Rattle.state.specs.declared.sizes.Sizes.{Sizes}
 use Rattle.state.specs.Records.{fact_rows, fact_feet, length_fact_rows}
 use Rattle.state.specs.RowTables.{tabled_long}
 use Rattle.state.specs.FactLaws.{facts_tabled}
-use Rattle.state.specs.Stands.{Texts, texts, Board, board, Stands}
+use Rattle.state.specs.Stands.{Texts, texts, Board, Stands}
 use Rattle.facts.specs.declared.Fact.{Fact}
 use Rattle.running.specs.declared.stopped.Stopped.{Stopped}
-use Rattle.running.specs.Lent.{Working, working, LongWorking, theory_front, board_front}
-use Rattle.beginning.specs.Lengths.{ExactBoard}
+use Rattle.running.specs.Lent.{Working, working, LongWorking, board_front}
 use Rattle.beginning.specs.Opened.{CourseOf, Opened}
 use Rattle.stepping.specs.declared.used.Used.{Used}
-use Rattle.stepping.specs.Parts.{front, Long, Behind}
+use Rattle.stepping.specs.Parts.{front, Behind}
 use Rattle.stepping.specs.Begun.{OpenedIn, Started}
 use Rattle.stepping.specs.Lends.{theory_exact, board_exact, theory_now, theory_front_lem, theory_behind, working_now, board_front_lem, working_behind}
 

@@ -1,6 +1,6 @@
 -- One form in the named parts of the tables: what is asked of it there, and what it leaves in the whole. Assumes nothing.
 use Rattle.std.specs.Prelude.{◌≡◌, refl, List, ◌++◌, ℕ, ◌+◌, ◌*◌, take, drop, Option, Some as some, None as nothing, Result, Ok, Err}
-use Rattle.std.proofs.Common.{sym, ap, ◌∙◌, subst}
+use Rattle.std.proofs.Common.{sym, ◌∙◌, subst}
 use Rattle.rules.specs.Limits.{VARIABLES, TERMS, WORDS, DEFS, GOALS, FACTS, ENTRIES}
 use Rattle.rules.specs.State.{State}
 use Rattle.questions.specs.declared.Question.{Question}

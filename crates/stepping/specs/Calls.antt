@@ -1,6 +1,6 @@
 -- The whole check, form by form: what stands between two of its parts, from the beginning to the end, and that all of it is a call as the definition says
 -- (`Call`). T, W, M, fs: the tables before the beginning; U, Z, N, gs: as they stand. Assumes nothing.
-use Rattle.std.specs.Prelude.{◌≡◌, refl, List, ◌++◌, ℕ, ◌+◌, ◌*◌, ◌≤◌, length, take, drop, replicate, Option, Some as some, None as nothing, Result, Ok, Err}
+use Rattle.std.specs.Prelude.{◌≡◌, refl, List, ◌++◌, ℕ, ◌+◌, ◌≤◌, length, take, drop, replicate, Option, Some as some, None as nothing, Result, Ok, Err}
 use Rattle.std.proofs.Common.{sym, ap, ◌∙◌, subst, arith, take-append-drop, drop_at, length-append}
 use Rattle.rules.specs.Limits.{GOALS, FACTS}
 use Rattle.rules.specs.State.{State, Counts as Tally}
@@ -18,10 +18,10 @@ use Rattle.running.specs.declared.stopped.Proved.{Proved}
 use Rattle.running.specs.declared.stopped.Stopped.{Stopped}
 use Rattle.running.specs.Course.{Underway, Over}
 use Rattle.running.specs.Finished.{forms_of, CountedAs, answer_of}
-use Rattle.running.specs.Lent.{Working, theory_front, board_front, TheoryBehind, WorkingBehind}
+use Rattle.running.specs.Lent.{Working, theory_front, TheoryBehind}
 use Rattle.running.specs.Between.{AllLong, Few}
 use Rattle.running.specs.ReadBack.{Call}
-use Rattle.running.specs.Checking.{tables_of, with_index, call_filled}
+use Rattle.running.specs.Checking.{tables_of, call_filled}
 use Rattle.advancing.specs.declared.advance.Advance.{Advance}
 use Rattle.advancing.specs.Stepped.{left_in_proof}
 use Rattle.stepping.specs.declared.used.Used.{Used}

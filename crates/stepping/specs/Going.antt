@@ -16,7 +16,7 @@ use Rattle.running.specs.Between.{Few}
 use Rattle.advancing.specs.declared.advance.Advance.{Advance}
 use Rattle.advancing.specs.Stepped.{OneMore, left_in_proof}
 use Rattle.stepping.specs.declared.used.Used.{Used}
-use Rattle.stepping.specs.Parts.{front, Long, Behind}
+use Rattle.stepping.specs.Parts.{front, Behind}
 
 -- Given ----------------------------------------------------------------------------------------------------------------------------
 

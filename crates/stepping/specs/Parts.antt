@@ -1,5 +1,5 @@
 -- What is lent from form to form: tables that may be longer than named, whose named parts a check fills; and what lies behind these. Assumes nothing.
-use Rattle.std.specs.Prelude.{◌≡◌, List, ℕ, ◌≤◌, length, take, drop, Result, Ok, Err}
+use Rattle.std.specs.Prelude.{◌≡◌, List, ◌≤◌, length, take, drop, Result, Ok, Err}
 use Rattle.rules.specs.Limits.{FACTS}
 use Rattle.kernel.specs.Parsed.{TheoryLists, Roomy}
 use Rattle.state.specs.Records.{fact_rows, fact_feet}

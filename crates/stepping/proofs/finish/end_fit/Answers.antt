@@ -1,4 +1,4 @@
-use Rattle.std.proofs.Common.{rules, refl, sym, ap, ◌∙◌, ◌++◌}
+use Rattle.std.proofs.Common.{rules, sym, ap, ◌∙◌, ◌++◌}
 use Rattle.rules.specs.Limits.{WORDS}
 use Rattle.terms.specs.Table.{settled}
 use Rattle.running.specs.Lent.{working}
