@@ -1,7 +1,7 @@
 -- What the forms of derived facts are given and what they answer, beside what the definition answers: K. Assumes nothing.
 use Rattle.state.specs.Records.{fact_rows, fact_feet}
-use Rattle.std.specs.Prelude.{◌≡◌, List, ℕ, ◌+◌, replicate, Result, Ok, Err}
-use Rattle.rules.specs.Limits.{TERMS}
+use Rattle.std.specs.Prelude.{◌≡◌, List, ℕ, ◌+◌, ◌≤◌, length, take, replicate, Result, Ok, Err}
+use Rattle.rules.specs.Limits.{PATTERNS, TERMS}
 use Rattle.rules.specs.Out.{Out, ok}
 use Rattle.rules.specs.Sexp.{Sexps}
 use Rattle.rules.specs.Step.{step}
@@ -75,6 +75,19 @@ FindsBy way.InductWith x p s cells = ReadsForm x s cells 6
 pub record Spare (ids memo : List ℕ) : Type 0 where
   pub ids_zero : ids ≡ replicate IDS 0
   pub memo_zero : memo ≡ replicate TERMS 0
+
+-- what a step needs of it: as many cells as a pattern may have, in front of `ids`
+pub record SpareFront (ids memo : List ℕ) : Type 0 where
+  pub ids_room : PATTERNS ≤ length ids
+  pub front_zero : take PATTERNS ids ≡ replicate PATTERNS 0
+  pub memo_zero : memo ≡ replicate TERMS 0
+
+-- what a way needs of it: `apply` no `ids`, an induction all of them
+abbrev pub SpareFor : Way → List ℕ → List ℕ → Type 0
+SpareFor way.Step ids memo = SpareFront ids memo
+SpareFor way.Apply ids memo = memo ≡ replicate TERMS 0
+SpareFor way.Induct ids memo = Spare ids memo
+SpareFor way.InductWith ids memo = Spare ids memo
 
 -- Answers --------------------------------------------------------------------------------------------------------------------------
 

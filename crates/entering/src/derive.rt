@@ -2,7 +2,7 @@
 ghost use Rattle.std.specs.Prelude.{◌≡◌};
 ghost use Rattle.terms.specs.Lent.{SameTables};
 ghost use Rattle.state.specs.Boards.{SameBoard, OnlyFacts, OnlyFactsAndVars};
-ghost use Rattle.entering.specs.Entered.{way_counts, Spare, FindsBy, FoundBy, AddsBy, AddedBy};
+ghost use Rattle.entering.specs.Entered.{way_counts, Spare, SpareFor, FindsBy, FoundBy, AddsBy, AddedBy};
 ghost use Rattle.entering.specs.Inverted.{AddsInversionIn, InvertedBy};
 
 use counts::Counts;
@@ -48,8 +48,8 @@ impl Way {
     }
 }
 
-// What the form derives, by its items. `memo` and `ids` are scratch: zero before and after. A struct of both would be taken apart here: `step` is lent a
-// part of `ids`, and `apply` is lent `memo` alone.
+// What the form derives, by its items. `memo` and `ids` are scratch: zero before and after, as far as the way needs them. A struct of both would be taken
+// apart here: `step` is lent a part of `ids`, and `apply` is lent `memo` alone.
 fn find(
     source: &Source<'_>,
     rules: &Rules<'_>,
@@ -60,7 +60,7 @@ fn find(
     ids: &mut [u32],
 ) -> Result<Derived, Question>
     requires finds { FindsBy way source.now rules.now store.old cells.now }
-    requires spare { Spare ids.old memo.old }
+    requires spare { SpareFor way ids.old memo.old }
     ensures same_tables { SameTables store.old store.new }
     ensures found { FoundBy way source.now rules.now store.old store.new cells.now result }
     ensures memo_unchanged { (memo.new ≡ memo.old) × (ids.new ≡ ids.old) }
@@ -74,7 +74,7 @@ fn find(
 }
 
 // `(step N RULE (REF...) ITEM...)`, `(apply N M (BINDING...) (REF...))`, `(induct N X JUDGMENT (CASE...))` or `(induct N X (HYP...) JUDGMENT (CASE...))`,
-// by the items of the form. `memo` and `ids` are scratch: zero before and after.
+// by the items of the form. `memo` and `ids` are scratch: zero before and after, as far as the way needs them.
 pub fn add_derived(
     given: &Given<'_>,
     board: &mut Board<'_>,
@@ -85,7 +85,7 @@ pub fn add_derived(
     ids: &mut [u32],
 ) -> Result<Counts, Question>
     requires adds { AddsBy way given.now board.old store.old cells.now }
-    requires spare { Spare ids.old memo.old }
+    requires spare { SpareFor way ids.old memo.old }
     ensures same_board { SameBoard board.old board.new × SameTables store.old store.new }
     ensures only { OnlyFacts board.old board.new }
     ensures added { AddedBy way given.now board.old board.new store.old store.new cells.now result }

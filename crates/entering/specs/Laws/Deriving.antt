@@ -1,7 +1,8 @@
 -- Forms of derived facts, and all tables at once: what they are given, and what stands afterwards. Assumes nothing.
 use Rattle.state.specs.Records.{fact_rows, fact_feet}
 use Rattle.std.specs.Prelude.{refl, List, ℕ, ◌≤◌, Result, Ok, Err}
-use Rattle.std.proofs.Common.{sym, subst}
+use Rattle.std.proofs.Common.{sym, subst, arith}
+use Rattle.rules.specs.Limits.{PATTERNS}
 use Rattle.rules.specs.Out.{Out}
 use Rattle.rules.specs.Sexp.{Sexps, count}
 use Rattle.rules.specs.State.{State}
@@ -19,13 +20,15 @@ use Rattle.state.specs.Stands.{Board, board, Stands}
 use Rattle.state.specs.Updates.{stands_derived}
 use Rattle.counts.specs.declared.Counts.{Counts}
 use Rattle.counts.specs.Counted.{counts_of}
+use Rattle.referring.specs.Ids.{IDS}
 use Rattle.referring.specs.Recall.{Refers}
+use Rattle.referring.specs.Laws.Fronts.{front_room, front_zero}
 use Rattle.forms.specs.Boards.{texts_of, theory_of, names_in, StandsIn}
 use Rattle.forms.specs.Moved.{MovesIn, LeftIn}
 use Rattle.forms.specs.Laws.Leaving.{stands_makes}
 use Rattle.entering.specs.declared.derive.Way.{Way}
 use Rattle.entering.specs.declared.derive.Way.TheVariants as way
-use Rattle.entering.specs.Entered.{AddsInstanceIn, AddsDerivedIn, AddsBy, EnteredAs, AddedBy, way_act}
+use Rattle.entering.specs.Entered.{AddsInstanceIn, AddsDerivedIn, AddsBy, Spare, SpareFor, EnteredAs, AddedBy, way_act}
 
 -- how many items a form has at least
 abbrev pub least_of : Way → ℕ
@@ -60,6 +63,18 @@ module _ (g : Given) (b : Lent) (s : Store) {S : State} (h : StandsIn g b s S) {
   adds_entered way.Apply l c t r a = a (stands_form l)
   adds_entered way.Induct l c t r a = a (stands_form l)
   adds_entered way.InductWith l c t r a = a (stands_form l)
+
+-- all of the scratch serves each way
+pub spare_for : (w : Way) → {ids memo : List ℕ} → Spare ids memo → SpareFor w ids memo
+spare_for way.Step s =
+    record {
+      ids_room = front_room IDS s.ids_zero PATTERNS (omega arith);
+      front_zero = front_zero IDS s.ids_zero PATTERNS (omega arith);
+      memo_zero = s.memo_zero;
+    }
+spare_for way.Apply s = s.memo_zero
+spare_for way.Induct s = s
+spare_for way.InductWith s = s
 
 -- Answered ---------------------------------------------------------------------------------------------------------------------------
 

@@ -10,6 +10,7 @@ use Rattle.kernel.proofs.Handed.{handed}
 use Rattle.kernel.proofs.Missing.{there, absent, question_is}
 use native.Mathlib.Omega.{arith}
 use Rattle.entering.specs.declared.derive.Way.TheVariants as way
+use Rattle.entering.specs.Laws.Deriving.{spare_for}
 use Rattle.entering.specs.Laws.Inverting.{stands_inversion}
 use Rattle.taking.proofs.Heads.{told, untold}
 use Rattle.taking.proofs.Arms.{untagged, own, unnumbered, many, next_is, performed, numbered, given_by, derived_by, assumed_tried, inverted_tried, var_tried, def_tried, result_tried, perform_var, perform_def, perform_result}
@@ -51,6 +52,9 @@ pub add_derived-requires-clause-adds : goal.add_derived-requires-clause-adds
 add_derived-requires-clause-adds c =
     let i = c.requires.0 in
     given_by i (rw (there _ _ c.ok_or.ensures.ok_part c.in_ok-tag.was) at (c.tag_of.ensures i.xs i.holds)) way.Step c.in-Step.is
+
+pub add_derived-requires-clause-spare : goal.add_derived-requires-clause-spare
+add_derived-requires-clause-spare c = spare_for way.Step c.requires.1
 
 pub returns-in-Step-clause-tried_as : goal.returns-in-Step-clause-tried_as
 returns-in-Step-clause-tried_as c = λ i.
