@@ -14,6 +14,7 @@ use Rattle.counts.specs.Sum.{none, sum}
 use Rattle.counts.specs.Counted.{counts_of, counts_sum, counts_none}
 use Rattle.running.specs.declared.finish.Report.{Report}
 use Rattle.running.specs.declared.refusal.Refusal.{Refusal}
+use Rattle.running.specs.declared.refusal.Refusal.TheVariants as refusal
 use Rattle.running.specs.declared.stopped.Proved.{Proved}
 use Rattle.running.specs.declared.stopped.Stopped.{Stopped}
 use Rattle.running.specs.Course.{Underway, Over}
@@ -25,10 +26,11 @@ use Rattle.running.specs.Checking.{tables_of, call_filled}
 use Rattle.advancing.specs.declared.advance.Advance.{Advance}
 use Rattle.advancing.specs.Stepped.{left_in_proof}
 use Rattle.stepping.specs.declared.used.Used.{Used}
-use Rattle.stepping.specs.Parts.{front, Long, Behind}
+use Rattle.stepping.specs.Parts.{front, Long, Behind, refused_by}
 use Rattle.stepping.specs.Begun.{Started}
 use Rattle.stepping.specs.Going.{Going, Advanced}
 use Rattle.stepping.specs.Ending.{Ending, Ended}
+use Rattle.stepping.specs.Outcomes.{one_end, not_tables}
 
 -- What stands ------------------------------------------------------------------------------------------------------------------------
 
@@ -167,6 +169,10 @@ module _ {theory goals proof : List ℕ} {T U : TheoryLists} {W Z : Working} {M 
         counted = t.counted;
       }
 
+  -- for each way in which the forms may have ended
+  pub ending_asked : {o : Result Proved Refusal} → o ≡ refused_by e → (f : Result Proved Stopped) → o ≡ refused_by f → Ending f u Z gs N
+  ending_asked i f j = subst (λ (x : Result Proved Stopped). Ending x u Z gs N) (one_end i j) ending
+
   -- and all of it is a call of a check
   pub called : {Y : Working} {O : List ℕ} {hs : List Fact} {r : Result Report Refusal} → Ended theory goals proof Z Y N O gs hs r →
       Call theory goals proof (tables_of T W M fs) (tables_of U Y O hs) (answer_of r) × (drop FACTS hs ≡ drop FACTS fs)
@@ -179,3 +185,10 @@ module _ {theory goals proof : List ℕ} {T U : TheoryLists} {W Z : Working} {M 
             x.index_is x.finishes (x.list_behind ∙ t.kept.list_behind)),
         ap (drop FACTS) x.records ∙ t.kept.behind.records,
       )
+
+-- Question 1 -----------------------------------------------------------------------------------------------------------------------
+
+-- then `end` asks nothing; that nothing was written is a call too: `call_unfit` of `running/specs/Checking`
+pub unfit_asked : {o : Result Proved Refusal} {u : Used} {Z : Working} {gs : List Fact} {N : List ℕ} → o ≡ Err refusal.Tables → (f : Result Proved Stopped) →
+    o ≡ refused_by f → Ending f u Z gs N
+unfit_asked i f j = not_tables f i j

@@ -1,5 +1,6 @@
 use Rattle.std.proofs.Common.{sym, ◌∙◌}
-use Rattle.stepping.proofs.Ends.{ends_back, no_refusal, is_ends, ended_for}
+use Rattle.stepping.specs.Outcomes.{ends_back, no_refusal, is_ends}
+use Rattle.stepping.proofs.Ends.{ended_for}
 use Rattle.stepping.proofs.finish.end.Goals as goal
 
 pub end_fit-requires : goal.end_fit-requires
