@@ -30,7 +30,7 @@ use Rattle.running.specs.ReadBack.{Call}
 use Rattle.running.specs.Checking.{tables_of, with_index, call_filled, call_unfit}
 use Rattle.beginning.specs.Opened.{Opened}
 use Rattle.schematic.specs.Ran.{Kept, Ran, unsettled, Whole, Filled}
-use Rattle.schematic.proofs.Lends.{front_is, behind_is, theory_exact, board_exact, theory_now, theory_front_lem, theory_behind, working_now, board_front_lem, working_behind}
+use Rattle.stepping.specs.Lends.{front_is, behind_is, theory_exact, board_exact, theory_now, theory_front_lem, theory_behind, working_now, board_front_lem, working_behind}
 
 -- The beginning --------------------------------------------------------------------------------------------------------------------
 
