@@ -3,12 +3,13 @@
 
 mod items;
 
+ghost use Rattle.std.specs.Prelude.{◌≤◌, length};
 ghost use Rattle.sexp.specs.Through.{Legible};
 
 use crate::items::{Items, Part};
 use cells::clear;
 use sexp::sexp::read_form;
-use std::io::{self, BufWriter, Read, Write};
+use std::io::{self, Read, Write};
 
 // How much of the input is read.
 const INPUT: usize = 4096;
@@ -57,18 +58,27 @@ fn show_all<W: Write>(out: &mut W, text: &[u8], words: &mut [u32]) -> io::Result
     }
 }
 
+// Reads until the buffer is full, the input ends or reading fails; how many bytes came.
+fn fill<R: Read>(input: &mut R, buffer: &mut [u8]) -> usize
+    ensures { result ≤ length buffer.old }
+{
+    let mut many = 0;
+    while many < buffer.len() {
+        let more = input.read(&mut buffer[many..]).unwrap_or(0);
+        if more == 0 {
+            break;
+        }
+        many += more;
+    }
+    many
+}
+
+// Text and cells stand in arrays, and each piece is written at once: no heap is used, so that there is none to run out of.
 fn run(rt: &HostRuntime) -> io::Result<()> {
-    let alloc = rt.alloc();
-    let mut text = Vec::new(alloc);
-    // `as`: there is no `From<usize> for u64`, in Rust as here
-    // where reading fails, what came before is gone through
-    let _ = rt.reader().take(INPUT as u64).read_to_end(&mut text);
-    // no clause says how much a reader gives
-    text.truncate(INPUT);
-    let mut words = vec![in alloc; 0; text.len()]?;
-    let mut out = BufWriter::new(alloc, io::writer(rt))?;
-    show_all(&mut out, &text, &mut words)?;
-    out.flush()
+    let mut text = [0u8; INPUT];
+    let mut words = [0u32; INPUT];
+    let many = fill(&mut rt.reader(), &mut text);
+    show_all(&mut rt.stdout(), &text[..many], &mut words)
 }
 
 // The status is 0 whatever comes, and what cannot be written is left out.
