@@ -2,13 +2,14 @@
 #![tactic(auto)]
 
 use printing::line::Line;
-use printing::load::load_texts;
+use printing::load::{TextFiles, load_texts};
 use std::io;
 use tabled::answers::answer;
 
 fn run(rt: &HostRuntime) -> io::Result<()> {
-    match load_texts(rt) {
-        Ok(files) => rt.println(Line(answer(&files.texts()))),
+    let mut files = TextFiles::new();
+    match load_texts(rt, &mut files) {
+        Ok(()) => rt.println(Line(answer(&files.texts()))),
         Err(error) => error.write("horn", &mut rt.stderr()),
     }
 }

@@ -2,22 +2,26 @@
 // goals without a result that 53 lists.
 #![tactic(auto)]
 
-use printing::load::load_texts;
+mod blocks;
+
+use crate::blocks::Blocks;
+use printing::load::{TextFiles, load_texts};
 use running::texts::Texts;
 use std::io;
-use std::io::{BufWriter, Write};
+use std::io::Write;
 use tabled::told::tell;
 
 fn write_facts(rt: &HostRuntime, texts: &Texts<'_>) -> io::Result<()> {
-    let mut out = BufWriter::new(rt.alloc(), rt.stdout())?;
-    tell(rt.alloc(), texts, &mut out)?;
+    let mut out = Blocks::new(rt.stdout());
+    tell(texts, &mut out)?;
     out.flush()
 }
 
 // As in `horn`, which names itself and writes its own: a function over a closure would save none of the two lines.
 fn run(rt: &HostRuntime) -> io::Result<()> {
-    match load_texts(rt) {
-        Ok(files) => write_facts(rt, &files.texts()),
+    let mut files = TextFiles::new();
+    match load_texts(rt, &mut files) {
+        Ok(()) => write_facts(rt, &files.texts()),
         Err(error) => error.write("horn_facts", &mut rt.stderr()),
     }
 }

@@ -1,17 +1,17 @@
 // What is recorded, each on its line: facts `(fact INDEX JUDGMENT (HYPOTHESES...) ASSUMED (PREMISES...) (GENERALISED...))`, the rules that each rests on
 // `(footing INDEX RULE...)`, and 53's list, `(missing [N N ..])`.
 use crate::checked::Checked;
+use crate::spelling::Waiting;
 use facts::Fact;
 use rules::{RULES, RULEWORDS};
-use std::alloc::Global;
 use std::io::{self, Write};
 use terms::sets::has;
 
 // The entries of a list as the closure writes each, one space between two of them.
-fn write_list<W: Write, F: Fn(u32, &mut W) -> io::Result<()>>(
+fn write_list<W: Write, F: FnMut(u32, &mut W) -> io::Result<()>>(
     list: &[u32],
     out: &mut W,
-    each: F,
+    mut each: F,
 ) -> io::Result<()>
     requires { F.IsAlwaysCallable each }
 {
@@ -33,12 +33,12 @@ fn cut(entries: &[u32], many: u32) -> (&[u32], &[u32]) {
     entries.split_at(entries.len().min(many as usize))
 }
 
-impl Checked<'_> {
+impl<'a> Checked<'a> {
     fn write_fact<W: Write>(
         &self,
-        alloc: Global,
         k: usize,
         fact: &Fact,
+        waiting: &mut Waiting<'a>,
         out: &mut W,
     ) -> io::Result<()> {
         let entries = self.lists.get(fact.first as usize..).unwrap_or(&[]);
@@ -46,11 +46,15 @@ impl Checked<'_> {
         let (premises, entries) = cut(entries, fact.premises);
         let (general, _) = cut(entries, fact.general);
         write!(out, "(fact {k} ")?;
-        self.write_term(alloc, fact.judgment, out)?;
+        self.write_term(fact.judgment, waiting, out)?;
         write!(out, " (")?;
         write_list(hyps, out, write_number)?;
         write!(out, ") {} (", fact.assumed)?;
-        write_list(premises, out, |term, out| self.write_term(alloc, term, out))?;
+        write_list(
+            premises,
+            out,
+            |term, out| self.write_term(term, waiting, out),
+        )?;
         write!(out, ") (")?;
         write_list(general, out, |v, out| {
             write!(out, "{}", self.variable_name(v as usize))
@@ -80,10 +84,12 @@ impl Checked<'_> {
         writeln!(out, "])")
     }
 
-    pub fn write_recorded<W: Write>(&self, alloc: Global, out: &mut W) -> io::Result<()> {
+    // It fails only where `out` does.
+    pub fn write_recorded<W: Write>(&self, out: &mut W) -> io::Result<()> {
         let many = self.recorded();
+        let mut waiting = Waiting::new();
         for (k, fact) in self.facts.iter().take(many).enumerate() {
-            self.write_fact(alloc, k, fact, out)?;
+            self.write_fact(k, fact, &mut waiting, out)?;
         }
         for (k, fact) in self.facts.iter().take(many).enumerate() {
             self.write_footing(k, &fact.footing, out)?;

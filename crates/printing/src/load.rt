@@ -1,17 +1,20 @@
 // The three texts that a program is called with, read from files, or why there are none.
-ghost use Rattle.std.specs.Prelude.{◌≤◌, IfOk, vec_len};
+ghost use Rattle.std.specs.Prelude.{◌≡◌, take};
 ghost use Rattle.printing.specs.Loaded.{AreShort};
 
+use crate::bytes::{Bytes, fill};
 use running::texts::Texts;
-use std::alloc::AllocError;
 use std::env::{Env, FillError};
 use std::fmt::InlineText;
-use std::io::{Error, Read, Write};
+use std::io::{Error, Write};
 use std::rt::Files;
 use std::{fs, io};
 
 // Bytes that are read of a text: one more than it may have, so that a longer one is refused.
-const TEXT: usize = rules::LENGTH + 1;
+pub const TEXT: usize = rules::LENGTH + 1;
+
+// And those of a file's name at most.
+pub const NAME: usize = 4096;
 
 // Linux's numbers of two errors, for arguments that cannot be had: the message is what the system says of a number, and an `ErrorKind` has words of its own.
 const MISSING: i32 = 22;
@@ -21,17 +24,32 @@ const TOO_LONG: i32 = 36;
 // What the three files hold: they own it, and `Texts` only reads it.
 #[derive(Drop)]
 pub struct TextFiles {
-    pub theory: Vec<u8>,
-    pub goals: Vec<u8>,
-    pub proof: Vec<u8>,
+    pub theory: Bytes<TEXT>,
+    pub goals: Bytes<TEXT>,
+    pub proof: Bytes<TEXT>,
 }
 
 impl TextFiles {
-    pub fn texts(&self) -> Texts<'_> {
+    // Empty ones, to be read into. They are lent to `load_texts`, and not handed out by it, so that they stand on the stack once.
+    pub fn new() -> TextFiles
+        ensures { (result.theory.many ≡ 0) × (result.goals.many ≡ 0) × (result.proof.many ≡ 0) }
+    {
+        TextFiles {
+            theory: Bytes::new(),
+            goals: Bytes::new(),
+            proof: Bytes::new(),
+        }
+    }
+
+    pub fn texts(&self) -> Texts<'_>
+        ensures theory { result.theory.now ≡ take self.now.theory.many self.now.theory.cells }
+        ensures goals { result.goals.now ≡ take self.now.goals.many self.now.goals.cells }
+        ensures proof { result.proof.now ≡ take self.now.proof.many self.now.proof.cells }
+    {
         Texts {
-            theory: &self.theory,
-            goals: &self.goals,
-            proof: &self.proof,
+            theory: self.theory.as_slice(),
+            goals: self.goals.as_slice(),
+            proof: self.proof.as_slice(),
         }
     }
 }
@@ -41,13 +59,7 @@ pub enum LoadError {
     // There are neither none nor three arguments.
     Usage,
     Argument(Error),
-    File { name: Vec<u8>, error: Error },
-}
-
-impl From<AllocError> for LoadError {
-    fn from(error: AllocError) -> LoadError {
-        LoadError::Argument(Error::from(error))
-    }
+    File { name: Bytes<NAME>, error: Error },
 }
 
 impl From<FillError> for LoadError {
@@ -66,7 +78,7 @@ impl LoadError {
         match self {
             LoadError::Usage => writeln!(out, "usage: {program} THEORY GOALS PROOF"),
             LoadError::Argument(error) => write_failure(b"argument", error, out),
-            LoadError::File { name, error } => write_failure(&name, error, out),
+            LoadError::File { name, error } => write_failure(name.as_slice(), error, out),
         }
     }
 }
@@ -83,30 +95,17 @@ fn write_failure<W: Write>(what: &[u8], error: Error, out: &mut W) -> io::Result
 }
 
 // The file of this name, which is UTF-8.
-fn read_file<R: Files + AllocGlobal>(rt: &R, name: &[u8]) -> io::Result<Vec<u8>>
-    ensures { IfOk result (λ text. vec_len text ≤ 65537) }
-{
+fn read_file<R: Files>(rt: &R, name: &[u8], text: &mut Bytes<TEXT>) -> io::Result<()> {
     let path = str::from_utf8(name).map_err(|_| Error::from_raw_os_error(MISSING))?;
-    let mut text = Vec::new(rt.alloc());
-    fs::open(rt, path)?
-        .take(TEXT as u64)
-        .read_to_end(&mut text)?;
-    // `take` promises this of readers whose bytes are known.
-    text.truncate(TEXT);
-    Ok(text)
-}
-
-fn read_named<R: Files + AllocGlobal>(rt: &R, name: Vec<u8>) -> Result<Vec<u8>, LoadError>
-    ensures { IfOk result (λ text. vec_len text ≤ 65537) }
-{
-    read_file(rt, &name).map_err(|error| LoadError::File { name, error })
+    text.many = fill(&mut fs::open(rt, path)?, &mut text.cells)?;
+    Ok(())
 }
 
 // What argument i says, as bytes: `env::args` of the library gives none where one is not UTF-8, and the message has to name such a file.
-fn argument<R: Env + AllocGlobal>(rt: &R, i: usize) -> Result<Vec<u8>, LoadError> {
-    let mut name = [0u8; 4096];
-    let n = rt.arg(i, &mut name)?;
-    Ok(Vec::from_slice(rt.alloc(), &name[..n])?)
+fn argument<R: Env>(rt: &R, i: usize) -> Result<Bytes<NAME>, LoadError> {
+    let mut name = Bytes::new();
+    name.many = rt.arg(i, &mut name.cells)?;
+    Ok(name)
 }
 
 // Whether there is an argument i; argument 0 is the program's own name.
@@ -115,24 +114,29 @@ fn has_argument<R: Env>(rt: &R, i: usize) -> bool {
     !matches!(rt.arg(i, &mut first), Err(FillError::NotPresent))
 }
 
-// The name of a file: what argument i says, or where there are no arguments its own.
-fn file_name<R: Env + AllocGlobal>(rt: &R, i: usize, own: &[u8]) -> Result<Vec<u8>, LoadError> {
-    if has_argument(rt, 1) {
-        return argument(rt, i);
-    }
-    Ok(Vec::from_slice(rt.alloc(), own)?)
+// The file that argument i names, or where there are no arguments the one of this name.
+fn read_text<R: Files + Env>(
+    rt: &R,
+    i: usize,
+    own: &[u8],
+    text: &mut Bytes<TEXT>,
+) -> Result<(), LoadError> {
+    let name = if has_argument(rt, 1) {
+        argument(rt, i)?
+    } else {
+        Bytes::of(own)
+    };
+    read_file(rt, name.as_slice(), text).map_err(|error| LoadError::File { name, error })
 }
 
 // The three files that the arguments name; without arguments those called theory, goals and proof.
-pub fn load_texts<R: Files + Env + AllocGlobal>(rt: &R) -> Result<TextFiles, LoadError>
-    ensures { IfOk result AreShort }
+pub fn load_texts<R: Files + Env>(rt: &R, files: &mut TextFiles) -> Result<(), LoadError>
+    ensures { AreShort files.new }
 {
     if has_argument(rt, 1) && (!has_argument(rt, 3) || has_argument(rt, 4)) {
         return Err(LoadError::Usage);
     }
-    Ok(TextFiles {
-        theory: read_named(rt, file_name(rt, 1, b"theory")?)?,
-        goals: read_named(rt, file_name(rt, 2, b"goals")?)?,
-        proof: read_named(rt, file_name(rt, 3, b"proof")?)?,
-    })
+    read_text(rt, 1, b"theory", &mut files.theory)?;
+    read_text(rt, 2, b"goals", &mut files.goals)?;
+    read_text(rt, 3, b"proof", &mut files.proof)
 }

@@ -1,10 +1,13 @@
 // Terms, spelled by name: a constant or a variable as such, an application in brackets. Terms are shared, so that one may be longer than anything else: it
 // stops at BYTES, with `...`.
+ghost use Rattle.std.specs.Prelude.{◌≡◌, ◌≤◌, ◌-◌, None, IfOk};
+ghost use Rattle.std.specs.Io.{WritesAtMost};
+ghost use Rattle.std.specs.Io.KnownBytes.{WriteAppends};
+
 use crate::checked::Checked;
-use std::alloc::Global;
+use rules::TERMS;
 use std::io;
 use std::io::Write;
-use std::slice::Iter;
 use terms::heads::Head;
 
 // What may be written of one term.
@@ -18,7 +21,11 @@ struct Counted<'a, W> {
 }
 
 impl<W: Write> Write for Counted<'_, W> {
-    fn write(&mut self, buf: &[u8]) -> io::Result<usize> {
+    fn write(&mut self, buf: &[u8]) -> io::Result<usize>
+        ensures bound { WritesAtMost result buf.now }
+        ensures bytes { WriteAppends None None result buf.now }
+        ensures counted { IfOk result (λ n. self.new.left ≡ self.old.left - n) }
+    {
         let n = self.out.write(buf)?;
         self.left = self.left.saturating_sub(n);
         Ok(n)
@@ -26,6 +33,31 @@ impl<W: Write> Write for Counted<'_, W> {
 
     fn flush(&mut self) -> io::Result<()> {
         self.out.flush()
+    }
+}
+
+// The arguments that wait, of the terms that are begun and not ended, in an array: terms nest no deeper than there are terms, and no heap is used.
+#[derive(Drop)]
+pub(crate) struct Waiting<'a> {
+    arguments: [&'a [u32]; TERMS],
+    depth: usize,
+    ghost inside: { depth ≤ 4096 },
+}
+
+impl<'a> Waiting<'a> {
+    pub(crate) fn new() -> Waiting<'a> {
+        let none: &[u32] = &[];
+        Waiting {
+            arguments: [none; TERMS],
+            depth: 0,
+        }
+    }
+
+    fn push(&mut self, arguments: &'a [u32]) {
+        if self.depth < TERMS {
+            self.arguments[self.depth] = arguments;
+            self.depth += 1;
+        }
     }
 }
 
@@ -41,12 +73,7 @@ impl<'a> Checked<'a> {
     }
 
     // The beginning of a term. Its arguments wait, if it has brackets: a variable or a constant has none, but a judgment has.
-    fn open<W: Write>(
-        &self,
-        term: u32,
-        waiting: &mut Vec<Iter<'a, u32>>,
-        out: &mut W,
-    ) -> io::Result<()> {
+    fn open<W: Write>(&self, term: u32, waiting: &mut Waiting<'a>, out: &mut W) -> io::Result<()> {
         let Some((word, arguments)) = self.words_of(term as usize) else {
             return write!(out, "?");
         };
@@ -55,39 +82,41 @@ impl<'a> Checked<'a> {
         if arguments.is_empty() && !self.is_predicate(head) {
             return write!(out, "{name}");
         }
-        waiting.push(arguments.iter())?;
+        waiting.push(arguments);
         write!(out, "({name}")
     }
 
+    // `waiting` is scratch, whatever it held.
     pub(crate) fn write_term<W: Write>(
         &self,
-        alloc: Global,
         term: u32,
+        waiting: &mut Waiting<'a>,
         out: &mut W,
     ) -> io::Result<()> {
-        let mut waiting = Vec::new(alloc);
+        waiting.depth = 0;
         let mut out = Counted { out, left: BYTES };
-        self.open(term, &mut waiting, &mut out)?;
+        self.open(term, waiting, &mut out)?;
         // a `for`, so that it is seen to end: each turn writes a byte or more, and BYTES are left at most
         for _ in 0..=BYTES {
-            let Some(arguments) = waiting.last_mut() else {
+            let Some(last) = waiting.depth.checked_sub(1) else {
                 break;
             };
             if out.left == 0 {
                 write!(out, " ...")?;
-                for _ in &waiting {
+                for _ in 0..waiting.depth {
                     write!(out, ")")?;
                 }
                 break;
             }
-            match arguments.next() {
-                Some(argument) => {
+            match waiting.arguments[last].split_first() {
+                Some((argument, rest)) => {
+                    waiting.arguments[last] = rest;
                     write!(out, " ")?;
-                    self.open(*argument, &mut waiting, &mut out)?;
+                    self.open(*argument, waiting, &mut out)?;
                 }
                 None => {
                     write!(out, ")")?;
-                    waiting.pop();
+                    waiting.depth = last;
                 }
             }
         }

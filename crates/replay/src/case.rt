@@ -1,77 +1,76 @@
-// Stored cases, read one by one. What is missing at the end of the input counts as empty.
-use printing::load::TextFiles;
-use std::alloc::Global;
-use std::io;
-use std::io::{BufRead, Read};
-
-// Bytes that a part has at most: twice what the longest has.
-const PART: u64 = 131072;
-
-// Bytes that a line of numbers has at most: seven of nine digits take less.
-const LINE: u64 = 80;
+// Stored cases, each cut out of what is in view. What is not there counts as empty.
+use running::texts::Texts;
 
 // Its parts. The facts and footings that are recorded stand one behind the other; none where whatever they are will do.
-#[derive(Drop)]
-pub struct Case {
-    pub name: Vec<u8>,
-    pub files: TextFiles,
-    pub answer: Vec<u8>,
-    pub recorded: Option<Vec<u8>>,
+#[derive(Clone, Copy)]
+pub struct Case<'a> {
+    pub name: &'a [u8],
+    pub texts: Texts<'a>,
+    pub answer: &'a [u8],
+    pub recorded: Option<&'a [u8]>,
 }
 
-// A line of numbers in decimal, a space between two of them. One that is missing, or is none, counts as 0.
-fn read_numbers<R: BufRead, const N: usize>(alloc: Global, input: &mut R) -> io::Result<[u64; N]> {
-    let mut line = Vec::new(alloc);
-    input.by_ref().take(LINE).read_until(b'\n', &mut line)?;
-    let words = str::from_utf8(&line).unwrap_or("").split_ascii_whitespace();
-    let mut numbers = [0u64; N];
-    for (number, word) in numbers.iter_mut().zip(words) {
-        *number = word.parse().unwrap_or(0);
+// A number with one more digit. Of one with more than nine digits the first nine count.
+fn with_digit(number: usize, digit: u8) -> usize {
+    match (digit as char).to_digit(10) {
+        Some(digit) if number < 100000000 => 10 * number + digit as usize,
+        _ => number,
     }
-    Ok(numbers)
 }
 
-fn read_part<R: BufRead>(alloc: Global, input: &mut R, many: u64) -> io::Result<Vec<u8>> {
-    let mut part = Vec::new(alloc);
-    input.by_ref().take(many.min(PART)).read_to_end(&mut part)?;
-    Ok(part)
-}
-
-// What is recorded. A case that does not store it has `-` for the facts and `-` for the footings.
-fn read_recorded<R: BufRead>(
-    alloc: Global,
-    input: &mut R,
-    many: u64,
-) -> io::Result<Option<Vec<u8>>> {
-    let recorded = read_part(alloc, input, many)?;
-    Ok(Some(recorded).filter(|recorded| !matches!(recorded.as_slice(), [b'-', _])))
-}
-
-// The header is its length on a line, and so many bytes.
-pub fn skip_header<R: BufRead>(alloc: Global, input: &mut R) -> io::Result<()> {
-    let [many]: [u64; 1] = read_numbers(alloc, input)?;
-    io::copy(&mut input.by_ref().take(many), &mut io::sink())?;
-    Ok(())
-}
-
-// None at the end of the input. A case is its parts' lengths on a line, the parts and a line feed.
-pub fn read_case<R: BufRead>(alloc: Global, input: &mut R) -> io::Result<Option<Case>> {
-    if input.fill_buf()?.is_empty() {
-        return Ok(None);
-    }
-    let [name, theory, goals, proof, answer, facts, footings]: [u64; 7] = read_numbers(
-        alloc, input,
-    )?;
-    let case = Case {
-        name: read_part(alloc, input, name)?,
-        files: TextFiles {
-            theory: read_part(alloc, input, theory)?,
-            goals: read_part(alloc, input, goals)?,
-            proof: read_part(alloc, input, proof)?,
-        },
-        answer: read_part(alloc, input, answer)?,
-        recorded: read_recorded(alloc, input, facts.saturating_add(footings))?,
+// The number in front, in decimal, and what stands behind it and the byte that ends it.
+fn cut_number(text: &[u8]) -> (usize, &[u8]) {
+    let (digits, rest) = match text.iter().position(|byte| !byte.is_ascii_digit()) {
+        Some(end) => (
+            text.get(..end).unwrap_or(&[]),
+            text.get(end + 1..).unwrap_or(&[]),
+        ),
+        None => (text, [0u8; 0].as_slice()),
     };
-    read_part(alloc, input, 1)?;
-    Ok(Some(case))
+    let number = digits
+        .iter()
+        .fold(0, |number, digit| with_digit(number, *digit));
+    (number, rest)
+}
+
+// So many bytes in front, and what stands behind them.
+fn cut_part(text: &[u8], many: usize) -> (&[u8], &[u8]) {
+    text.split_at(many.min(text.len()))
+}
+
+// What stands behind the header, which is its length on a line, and so many bytes.
+pub fn behind_header(text: &[u8]) -> &[u8] {
+    let (many, text) = cut_number(text);
+    cut_part(text, many).1
+}
+
+// The case in front, and what stands behind it. A case is its parts' lengths on a line, the parts and a line feed.
+pub fn cut_case(text: &[u8]) -> (Case<'_>, &[u8]) {
+    let mut text = text;
+    let mut parts = [0usize; 7];
+    for many in parts.iter_mut() {
+        let (number, rest) = cut_number(text);
+        *many = number;
+        text = rest;
+    }
+    let [name, theory, goals, proof, answer, facts, footings] = parts;
+    let (name, text) = cut_part(text, name);
+    let (theory, text) = cut_part(text, theory);
+    let (goals, text) = cut_part(text, goals);
+    let (proof, text) = cut_part(text, proof);
+    let (answer, text) = cut_part(text, answer);
+    let (recorded, text) = cut_part(text, facts.saturating_add(footings));
+    let (_, text) = cut_part(text, 1);
+    let case = Case {
+        name,
+        texts: Texts {
+            theory,
+            goals,
+            proof,
+        },
+        answer,
+        // a case that does not store them has `-` for the facts and `-` for the footings
+        recorded: Some(recorded).filter(|recorded| !matches!(recorded, [b'-', _])),
+    };
+    (case, text)
 }

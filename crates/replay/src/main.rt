@@ -4,29 +4,37 @@
 
 mod case;
 mod expected;
+mod window;
 
-use crate::case::{read_case, skip_header};
+use crate::case::{behind_header, cut_case};
 use crate::expected::is_as_expected;
+use crate::window::Window;
 use std::io;
-use std::io::{BufReader, Write};
+use std::io::Write;
 
 // Cases that are read at most, so that the walk is seen to end.
 const CASES: usize = 100000;
 
 // All cases of the input; how many.
 fn replay_all(rt: &HostRuntime) -> io::Result<usize> {
-    let mut input = BufReader::new(rt.alloc(), rt.reader())?;
-    skip_header(rt.alloc(), &mut input)?;
+    let mut input = rt.reader();
+    let mut window = Window::new();
+    let left = behind_header(window.refilled(&mut input)).len();
+    window.keep(left);
     for many in 0..CASES {
-        let Some(case) = read_case(rt.alloc(), &mut input)? else {
+        let text = window.refilled(&mut input);
+        if text.is_empty() {
             return Ok(many);
-        };
-        if !is_as_expected(rt.alloc(), &case)? {
+        }
+        let (case, rest) = cut_case(text);
+        if !is_as_expected(&case)? {
             let mut out = rt.stdout();
             out.write_all(b"differs: ")?;
-            out.write_all(&case.name)?;
+            out.write_all(case.name)?;
             out.write_all(b"\n")?;
         }
+        let left = rest.len();
+        window.keep(left);
     }
     Ok(CASES)
 }
