@@ -7,7 +7,7 @@ use kernel::parse::parse;
 use kernel::tables::{Counts, Tables};
 use questions::Refused;
 use rules::{ARGUMENTS, PATTERNS, RULES, RULEVARS, SORTS, SYMBOLS};
-use std::io::{self, BufWriter, Read, Write};
+use std::io::{self, Read, Write};
 
 // How much of the input is read.
 const INPUT: usize = 4096;
@@ -68,21 +68,33 @@ fn show_tables<W: Write>(out: &mut W, tables: &Tables<'_>) -> io::Result<()>
     show_row(out, "patterns", &tables.patterns[..words])
 }
 
+// Reads until the buffer is full, the input ends or reading fails; how many bytes came. As in `sexp_main`: the two share no crate that knows of input, and
+// a new one for a loop is no plainer.
+fn fill<R: Read>(input: &mut R, buffer: &mut [u8]) -> usize
+    ensures { result ≤ length buffer.old }
+{
+    let mut many = 0;
+    while many < buffer.len() {
+        let more = input.read(&mut buffer[many..]).unwrap_or(0);
+        if more == 0 {
+            break;
+        }
+        many += more;
+    }
+    many
+}
+
+// Text and tables stand in arrays, and each piece is written at once: no heap is used, so that there is none to run out of.
 fn run(rt: &HostRuntime) -> io::Result<()> {
-    let alloc = rt.alloc();
-    // as sexp_main reads its input: the two share no crate that knows of input, and a new one for four lines is no plainer
-    let mut text = Vec::new(alloc);
-    // where reading fails, what came before is gone through
-    let _ = rt.reader().take(INPUT as u64).read_to_end(&mut text);
-    // no clause says how much a reader gives
-    text.truncate(INPUT);
-    let mut cells = vec![in alloc; 0; text.len()]?;
-    let mut sorts = vec![in alloc; 0; 2 * SORTS]?;
-    let mut symbols = vec![in alloc; 0; 4 * SYMBOLS]?;
-    let mut inputs = vec![in alloc; 0; ARGUMENTS * SYMBOLS]?;
-    let mut rules = vec![in alloc; 0; 6 * RULES]?;
-    let mut vars = vec![in alloc; 0; 3 * RULEVARS * RULES]?;
-    let mut patterns = vec![in alloc; 0; PATTERNS]?;
+    let mut text = [0u8; INPUT];
+    let many = fill(&mut rt.reader(), &mut text);
+    let mut cells = [0u32; INPUT];
+    let mut sorts = [0; 2 * SORTS];
+    let mut symbols = [0; 4 * SYMBOLS];
+    let mut inputs = [0; ARGUMENTS * SYMBOLS];
+    let mut rules = [0; 6 * RULES];
+    let mut vars = [0; 3 * RULEVARS * RULES];
+    let mut patterns = [0; PATTERNS];
     let mut tables = Tables {
         sorts: &mut sorts,
         symbols: &mut symbols,
@@ -92,10 +104,9 @@ fn run(rt: &HostRuntime) -> io::Result<()> {
         patterns: &mut patterns,
         held: Counts::NONE,
     };
-    let mut out = BufWriter::new(alloc, io::writer(rt))?;
-    show_answer(&mut out, parse(&text, &mut cells, &mut tables))?;
-    show_tables(&mut out, &tables)?;
-    out.flush()
+    let mut out = rt.stdout();
+    show_answer(&mut out, parse(&text[..many], &mut cells, &mut tables))?;
+    show_tables(&mut out, &tables)
 }
 
 // The status is 0 whatever comes, and what cannot be written is left out.
