@@ -2,6 +2,8 @@
 ghost use Rattle.std.specs.Prelude.{◌≡◌};
 ghost use Rattle.rules.specs.Check.{check};
 ghost use Rattle.running.specs.Finished.{answer_of};
+ghost use Rattle.running.specs.ReadBack.{Call};
+ghost use Rattle.tabled.specs.Lending.{cells_of, Lends};
 
 use beginning::lengths;
 use facts::Fact;
@@ -48,9 +50,10 @@ impl Tables {
         }
     }
 
-    // The answer is the definition's, whatever stood in the tables.
+    // The answer is the definition's, and the tables are as a check leaves them, whatever stood there.
     pub(crate) fn check(&mut self, texts: &Texts<'_>) -> Result<Report, Refusal>
-        ensures { answer_of result ≡ (check texts.now.theory.now texts.now.goals.now texts.now.proof.now).answer }
+        ensures call { Call texts.now.theory.now texts.now.goals.now texts.now.proof.now (cells_of self.old) (cells_of self.new) (answer_of result) }
+        ensures answer { answer_of result ≡ (check texts.now.theory.now texts.now.goals.now texts.now.proof.now).answer }
     {
         schematic::check(
             texts.theory,
@@ -73,12 +76,14 @@ impl Tables {
         )
     }
 
-    // What a check of these texts left, with this answer.
+    // What a check of these texts left, with this answer: what is told of it is read off these tables.
     pub(crate) fn view<'a>(
         &'a self,
         texts: Texts<'a>,
         answer: Result<Report, Refusal>,
-    ) -> Checked<'a> {
+    ) -> Checked<'a>
+        ensures { Lends self.now texts.entry answer result }
+    {
         Checked {
             texts,
             answer,

@@ -2,8 +2,8 @@ use borrow.Author.Rules.{rules}
 use Rattle.tabled.proofs.Answering.{answers_named}
 use Rattle.tabled.proofs.tables.Tables.check.Goals as goal
 
-pub returns : goal.returns
-returns c =
+pub returns-clause-answer : goal.returns-clause-answer
+returns-clause-answer c =
     answers_named _ _ _ (record {
       theory = record {
         sorts = search rules;
