@@ -34,22 +34,39 @@ impl<W: Write> Blocks<W> {
         self.many = 0;
         self.out.write_all(&self.block[..many])
     }
-}
 
-impl<W: Write> Write for Blocks<W> {
-    fn write(&mut self, buf: &[u8]) -> io::Result<usize> {
+    // The piece comes into the block, which is handed on before where there is no room; not one that is longer than the block.
+    #[inline(always)]
+    fn put(&mut self, buf: &[u8]) -> io::Result<bool> {
         if BLOCK - self.many < buf.len() {
             self.hand_on()?;
         }
         let at = self.many;
         let left = BLOCK - at;
         if left < buf.len() {
-            return self.out.write(buf);
+            return Ok(false);
         }
         let end = at + buf.len();
         self.block[at..end].copy_from_slice(buf);
         self.many = end;
-        Ok(buf.len())
+        Ok(true)
+    }
+}
+
+impl<W: Write> Write for Blocks<W> {
+    fn write(&mut self, buf: &[u8]) -> io::Result<usize> {
+        if self.put(buf)? {
+            return Ok(buf.len());
+        }
+        self.out.write(buf)
+    }
+
+    // A piece goes out whole: most of what is written comes by this, piece by piece of long terms.
+    fn write_all(&mut self, buf: &[u8]) -> io::Result<()> {
+        if self.put(buf)? {
+            return Ok(());
+        }
+        self.out.write_all(buf)
     }
 
     fn flush(&mut self) -> io::Result<()> {

@@ -1,7 +1,7 @@
 // What is recorded, each on its line: facts `(fact INDEX JUDGMENT (HYPOTHESES...) ASSUMED (PREMISES...) (GENERALISED...))`, the rules that each rests on
 // `(footing INDEX RULE...)`, and 53's list, `(missing [N N ..])`.
 use crate::checked::Checked;
-use crate::spelling::Waiting;
+use crate::spelling::Spelling;
 use facts::Fact;
 use rules::{RULES, RULEWORDS};
 use std::io::{self, Write};
@@ -38,7 +38,7 @@ impl<'a> Checked<'a> {
         &self,
         k: usize,
         fact: &Fact,
-        waiting: &mut Waiting<'a>,
+        spelling: &mut Spelling<'a>,
         out: &mut W,
     ) -> io::Result<()> {
         let entries = self.lists.get(fact.first as usize..).unwrap_or(&[]);
@@ -46,14 +46,14 @@ impl<'a> Checked<'a> {
         let (premises, entries) = cut(entries, fact.premises);
         let (general, _) = cut(entries, fact.general);
         write!(out, "(fact {k} ")?;
-        self.write_term(fact.judgment, waiting, out)?;
+        self.write_term(fact.judgment, spelling, out)?;
         write!(out, " (")?;
         write_list(hyps, out, write_number)?;
         write!(out, ") {} (", fact.assumed)?;
         write_list(
             premises,
             out,
-            |term, out| self.write_term(term, waiting, out),
+            |term, out| self.write_term(term, spelling, out),
         )?;
         write!(out, ") (")?;
         write_list(general, out, |v, out| {
@@ -87,9 +87,9 @@ impl<'a> Checked<'a> {
     // It fails only where `out` does.
     pub fn write_recorded<W: Write>(&self, out: &mut W) -> io::Result<()> {
         let many = self.recorded();
-        let mut waiting = Waiting::new();
+        let mut spelling = Spelling::of(self);
         for (k, fact) in self.facts.iter().take(many).enumerate() {
-            self.write_fact(k, fact, &mut waiting, out)?;
+            self.write_fact(k, fact, &mut spelling, out)?;
         }
         for (k, fact) in self.facts.iter().take(many).enumerate() {
             self.write_footing(k, &fact.footing, out)?;

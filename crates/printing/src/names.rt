@@ -5,6 +5,7 @@ ghost use Rattle.printing.specs.Names.{name_text};
 use crate::checked::Checked;
 use questions::Text;
 use std::fmt;
+use std::io::{self, Write};
 use terms::heads::Head;
 
 // A name of a text, or the number of a variable that was made.
@@ -21,6 +22,17 @@ impl fmt::Display for Name<'_> {
         match *self {
             Name::Written(name) => f.write_str(name),
             Name::Made(v) => write!(f, "_{v}"),
+        }
+    }
+}
+
+impl Name<'_> {
+    // A name that is written goes out as it is: terms are long, and a formatter between takes more than the rest.
+    #[inline(always)]
+    pub(crate) fn write<W: Write>(self, out: &mut W) -> io::Result<()> {
+        match self {
+            Name::Written(name) => out.write_all(name.as_bytes()),
+            Name::Made(_) => write!(out, "{self}"),
         }
     }
 }

@@ -1,11 +1,12 @@
 // Terms, spelled by name: a constant or a variable as such, an application in brackets. Terms are shared, so that one may be longer than anything else: it
 // stops at BYTES, with `...`.
-ghost use Rattle.std.specs.Prelude.{◌≡◌, ◌≤◌, ◌-◌, None, IfOk};
+ghost use Rattle.std.specs.Prelude.{◌≡◌, ◌≤◌, ◌-◌, length, None, IfOk, OnOk};
 ghost use Rattle.std.specs.Io.{WritesAtMost};
-ghost use Rattle.std.specs.Io.KnownBytes.{WriteAppends};
+ghost use Rattle.std.specs.Io.KnownBytes.{Appends, WriteAppends};
 
 use crate::checked::Checked;
-use rules::TERMS;
+use crate::names::Name;
+use rules::{SYMBOLS, TERMS, VARIABLES};
 use std::io;
 use std::io::Write;
 use terms::heads::Head;
@@ -31,31 +32,69 @@ impl<W: Write> Write for Counted<'_, W> {
         Ok(n)
     }
 
+    // As a piece goes out whole, its bytes are counted at once. In place where it is called, as what `open` does is: a term is thousands of pieces.
+    #[inline(always)]
+    fn write_all(&mut self, buf: &[u8]) -> io::Result<()>
+        ensures bytes { OnOk result (Appends None None buf.now) }
+        ensures counted { OnOk result (self.new.left ≡ self.old.left - length buf.now) }
+    {
+        self.out.write_all(buf)?;
+        self.left = self.left.saturating_sub(buf.len());
+        Ok(())
+    }
+
     fn flush(&mut self) -> io::Result<()> {
         self.out.flush()
     }
 }
 
-// The arguments that wait, of the terms that are begun and not ended, in an array: terms nest no deeper than there are terms, and no heap is used.
+// A head as it is written, and whether it stands without brackets where it has no arguments: a variable or a constant does, a judgment does not.
+#[derive(Clone, Copy)]
+struct Spelled<'a> {
+    name: Name<'a>,
+    bare: bool,
+}
+
+// What terms are spelled with: how each head is written, which is looked up once and not for each term, and the arguments that wait, of the terms that are
+// begun and not ended. In arrays: terms nest no deeper than there are terms, and no heap is used.
 #[derive(Drop)]
-pub(crate) struct Waiting<'a> {
-    arguments: [&'a [u32]; TERMS],
+pub(crate) struct Spelling<'a> {
+    heads: [Spelled<'a>; HEADS],
+    waiting: [&'a [u32]; TERMS],
     depth: usize,
     ghost inside: { depth ≤ 4096 },
 }
 
-impl<'a> Waiting<'a> {
-    pub(crate) fn new() -> Waiting<'a> {
+// Symbols, and behind them variables, as the words of terms have them.
+const HEADS: usize = SYMBOLS + VARIABLES;
+
+impl<'a> Spelling<'a> {
+    pub(crate) fn of(checked: &Checked<'a>) -> Spelling<'a> {
         let none: &[u32] = &[];
-        Waiting {
-            arguments: [none; TERMS],
+        let unknown = Spelled {
+            name: Name::Written("?"),
+            bare: true,
+        };
+        let mut heads = [unknown; HEADS];
+        // by its number: what is lent to be changed may hold no references of its own
+        for word in 0..HEADS {
+            let head = Head::from(word as u32);
+            heads[word] = Spelled {
+                name: checked.head_name(head),
+                bare: !checked.is_predicate(head),
+            };
+        }
+        Spelling {
+            heads,
+            waiting: [none; TERMS],
             depth: 0,
         }
     }
 
+    #[inline(always)]
     fn push(&mut self, arguments: &'a [u32]) {
         if self.depth < TERMS {
-            self.arguments[self.depth] = arguments;
+            self.waiting[self.depth] = arguments;
             self.depth += 1;
         }
     }
@@ -63,60 +102,76 @@ impl<'a> Waiting<'a> {
 
 impl<'a> Checked<'a> {
     // Its first word and its arguments.
-    fn words_of(&self, term: usize) -> Option<(&'a u32, &'a [u32])> {
+    #[inline(always)]
+    fn words_of(&self, term: usize) -> Option<(u32, &'a [u32])> {
         let from = match term.checked_sub(1) {
             Some(before) => *self.index.get(before)?,
             None => 0,
         };
         let end = *self.index.get(term)?;
-        self.words.get(from as usize..end as usize)?.split_first()
-    }
-
-    // The beginning of a term. Its arguments wait, if it has brackets: a variable or a constant has none, but a judgment has.
-    fn open<W: Write>(&self, term: u32, waiting: &mut Waiting<'a>, out: &mut W) -> io::Result<()> {
-        let Some((word, arguments)) = self.words_of(term as usize) else {
-            return write!(out, "?");
-        };
-        let head = Head::from(*word);
-        let name = self.head_name(head);
-        if arguments.is_empty() && !self.is_predicate(head) {
-            return write!(out, "{name}");
+        match self.words.get(from as usize..end as usize)? {
+            [word, arguments @ ..] => Some((*word, arguments)),
+            [] => None,
         }
-        waiting.push(arguments);
-        write!(out, "({name}")
     }
 
-    // `waiting` is scratch, whatever it held.
+    // The beginning of a term, with a space before it if it is an argument. Its own arguments wait, if it has brackets.
+    #[inline(always)]
+    fn open<W: Write>(
+        &self,
+        term: u32,
+        is_argument: bool,
+        spelling: &mut Spelling<'a>,
+        out: &mut W,
+    ) -> io::Result<()> {
+        let spelled = self.words_of(term as usize).and_then(|(word, arguments)| Some((
+            *spelling.heads.get(word as usize)?,
+            arguments,
+        )));
+        let Some((Spelled { name, bare }, arguments)) = spelled else {
+            return out.write_all(if is_argument { b" ?" } else { b"?" });
+        };
+        if bare && arguments.is_empty() {
+            if is_argument {
+                out.write_all(b" ")?;
+            }
+            return name.write(out);
+        }
+        spelling.push(arguments);
+        out.write_all(if is_argument { b" (" } else { b"(" })?;
+        name.write(out)
+    }
+
+    // What `spelling` held waiting goes.
     pub(crate) fn write_term<W: Write>(
         &self,
         term: u32,
-        waiting: &mut Waiting<'a>,
+        spelling: &mut Spelling<'a>,
         out: &mut W,
     ) -> io::Result<()> {
-        waiting.depth = 0;
+        spelling.depth = 0;
         let mut out = Counted { out, left: BYTES };
-        self.open(term, waiting, &mut out)?;
+        self.open(term, false, spelling, &mut out)?;
         // a `for`, so that it is seen to end: each turn writes a byte or more, and BYTES are left at most
-        for _ in 0..=BYTES {
-            let Some(last) = waiting.depth.checked_sub(1) else {
+        for _ in 0..BYTES + 1 {
+            let Some(last) = spelling.depth.checked_sub(1) else {
                 break;
             };
             if out.left == 0 {
-                write!(out, " ...")?;
-                for _ in 0..waiting.depth {
-                    write!(out, ")")?;
+                out.write_all(b" ...")?;
+                for _ in 0..spelling.depth {
+                    out.write_all(b")")?;
                 }
                 break;
             }
-            match waiting.arguments[last].split_first() {
-                Some((argument, rest)) => {
-                    waiting.arguments[last] = rest;
-                    write!(out, " ")?;
-                    self.open(*argument, waiting, &mut out)?;
+            match spelling.waiting[last] {
+                [argument, rest @ ..] => {
+                    spelling.waiting[last] = rest;
+                    self.open(*argument, true, spelling, &mut out)?;
                 }
-                None => {
-                    write!(out, ")")?;
-                    waiting.depth = last;
+                [] => {
+                    out.write_all(b")")?;
+                    spelling.depth = last;
                 }
             }
         }
