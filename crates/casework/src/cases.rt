@@ -124,7 +124,8 @@ fn read_with(
     Ok(())
 }
 
-// The same, with a tree in so many cells, two for each name.
+// The same, with a tree in so many cells, two for each name. Not drawn into its callers, each of which would hold the tree's stack for every form.
+#[inline(never)]
 fn read_in<const CELLS: usize>(reader: &Reader<'_>, cells: &[u32]) -> Result<(), Question>
     requires { ReadsCases reader.now cells.now × (CELLS ≤ LENGTH) }
     ensures { (g : ReadsCases reader.now cells.now) → CasesAs g.S g.xs result }

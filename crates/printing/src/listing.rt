@@ -84,7 +84,8 @@ impl<'a> Checked<'a> {
         writeln!(out, "])")
     }
 
-    // It fails only where `out` does.
+    // It fails only where `out` does. Not drawn into its callers, which would hold the stack of what waits during the check too.
+    #[inline(never)]
     pub fn write_recorded<W: Write>(&self, out: &mut W) -> io::Result<()> {
         let many = self.recorded();
         let mut spelling = Spelling::of(self);

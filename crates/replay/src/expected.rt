@@ -36,6 +36,12 @@ impl Write for Expected<'_> {
         Ok(buf.len())
     }
 
+    // Each piece is taken whole.
+    fn write_all(&mut self, buf: &[u8]) -> io::Result<()> {
+        self.write(buf)?;
+        Ok(())
+    }
+
     fn flush(&mut self) -> io::Result<()> {
         Ok(())
     }
