@@ -15,9 +15,8 @@ ghost use Rattle.terms_main.specs.Placed.{Kept, Placed};
 use anyhow::{Context, Error, Result, anyhow, bail};
 use questions::Row;
 use rules::{PAIRS, TERMS, TERMWORDS, VARIABLES, VARIABLEWORDS, WORDS};
-use std::alloc::Global;
 use std::fmt::{self, Display};
-use std::io::{self, BufWriter, Write};
+use std::io::{self, Write};
 use std::marker::Model;
 use terms::heads::Head;
 use terms::sets::has;
@@ -64,17 +63,17 @@ fn read(text: &mut &[u8], store: &mut Store<'_>) -> Result<usize>
 }
 
 // The bindings under which two terms are the same, if there are any.
-fn bindings(alloc: Global, store: &mut Store<'_>, s: usize, t: usize) -> Result<Option<Vec<u32>>>
+fn bindings(store: &mut Store<'_>, s: usize, t: usize) -> Result<Option<[u32; VARIABLES]>>
     requires { GoodStore store.old × (s < store.old.mark.terms) × (t < store.old.mark.terms) }
     ensures same_tables { SameTables store.old store.new }
     ensures kept { Kept store.old store.new }
-    ensures bound { IfOk result (λ found. IfSome found (λ theta. Theta store.new.mark theta.items)) }
+    ensures bound { IfOk result (λ found. IfSome found (λ theta. Theta store.new.mark theta)) }
 {
-    let mut theta = vec![in alloc; 0; VARIABLES]?;
-    let mut map = vec![in alloc; 0; VARIABLES]?;
-    let mut memo = vec![in alloc; 0; TERMS]?;
-    let mut pairs = vec![in alloc; 0; 2 * PAIRS]?;
-    let mut seen = vec![in alloc; 0; TERMWORDS]?;
+    let mut theta = [0; VARIABLES];
+    let mut map = [0; VARIABLES];
+    let mut memo = [0; TERMS];
+    let mut pairs = [0; 2 * PAIRS];
+    let mut seen = [0; TERMWORDS];
     let mut scratch = Scratch {
         map: &mut map,
         memo: &mut memo,
@@ -138,15 +137,10 @@ fn show_line<W: Write>(out: &mut W, word: &str, terms: &Terms<'_>, id: usize) ->
 }
 
 // Writes the variables of the term `id`.
-fn show_variables<W: Write>(
-    out: &mut W,
-    alloc: Global,
-    terms: &Terms<'_>,
-    id: usize,
-) -> io::Result<()>
+fn show_variables<W: Write>(out: &mut W, terms: &Terms<'_>, id: usize) -> io::Result<()>
     requires { GoodTerms terms.now × (id < terms.now.mark.terms) }
 {
-    let mut seen = vec![in alloc; 0; TERMWORDS]?;
+    let mut seen = [0; TERMWORDS];
     let mut set = [0; VARIABLEWORDS];
     variables(terms, id, &mut seen, &mut set);
     write!(out, "variables")?;
@@ -173,7 +167,6 @@ fn show_bindings<W: Write>(out: &mut W, terms: &Terms<'_>, theta: &[u32]) -> io:
 fn show_under<W: Write>(
     out: &mut W,
     word: &str,
-    alloc: Global,
     store: &mut Store<'_>,
     theta: &[u32],
     id: usize,
@@ -184,16 +177,16 @@ fn show_under<W: Write>(
     ensures kept { Kept store.old store.new }
     ensures bound { Theta store.new.mark theta.now }
 {
-    let mut memo = vec![in alloc; 0; TERMS]?;
+    let mut memo = [0; TERMS];
     let under = substitute(store, theta, &mut memo, id).map_err(no_room)?;
     show_line(out, word, &store.terms(), under)?;
     Ok(())
 }
 
 // Writes two terms, unifies them, and writes what came of it.
-fn solve<W: Write>(out: &mut W, alloc: Global, left: &str, right: &str) -> Result<()> {
-    let mut index = vec![in alloc; 0; 4 * TERMS]?;
-    let mut words = vec![in alloc; 0; WORDS]?;
+fn solve<W: Write>(out: &mut W, left: &str, right: &str) -> Result<()> {
+    let mut index = [0; 4 * TERMS];
+    let mut words = [0; WORDS];
     let mut store = Store {
         index: &mut index,
         words: &mut words,
@@ -203,22 +196,21 @@ fn solve<W: Write>(out: &mut W, alloc: Global, left: &str, right: &str) -> Resul
     let t = read(&mut right.as_bytes(), &mut store)?;
     show_line(out, "first ", &store.terms(), s)?;
     show_line(out, "second", &store.terms(), t)?;
-    show_variables(out, alloc, &store.terms(), s)?;
-    let Some(theta) = bindings(alloc, &mut store, s, t)? else {
+    show_variables(out, &store.terms(), s)?;
+    let Some(theta) = bindings(&mut store, s, t)? else {
         writeln!(out, "apart")?;
         return Ok(());
     };
     show_bindings(out, &store.terms(), &theta)?;
-    show_under(out, "first becomes", alloc, &mut store, &theta, s)?;
-    show_under(out, "second becomes", alloc, &mut store, &theta, t)
+    show_under(out, "first becomes", &mut store, &theta, s)?;
+    show_under(out, "second becomes", &mut store, &theta, t)
 }
 
 fn run(rt: &HostRuntime) -> Result<()> {
-    let alloc = rt.alloc();
-    let mut out = BufWriter::new(alloc, io::writer(rt))?;
+    let mut out = rt.stdout();
     for (left, right) in [("f0f10", "ffa1fb2"), ("f01", "ff1af0a"), ("f0a", "fbb")] {
         // the next pair has a store of its own
-        if let Err(error) = solve(&mut out, alloc, left, right) {
+        if let Err(error) = solve(&mut out, left, right) {
             writeln!(out, "{error}")?;
         }
         writeln!(out)?;
