@@ -2,6 +2,7 @@
 ghost use Rattle.std.specs.Prelude.{◌≡◌, ◌^◌, ◌<◌};
 ghost use Rattle.rules.specs.State.{State};
 ghost use Rattle.rules.specs.Forms.{add_var, add_def};
+ghost use Rattle.questions.specs.Numbers.{text_number};
 ghost use Rattle.terms.specs.Lent.{SameTables};
 ghost use Rattle.state.specs.Boards.{SameBoard, OnlyVars, OnlyDefs};
 ghost use Rattle.forms.specs.Boards.{LooksUp, KnownIn, AddsVarIn, ReadsFormIn};
@@ -10,14 +11,14 @@ ghost use Rattle.forms.specs.Declares.{unused, VarAs, NamedAs, DefAs};
 use cells::Span;
 use kernel::atoms::marked;
 use kernel::names::SortTable;
-use questions::{Question, Row};
+use questions::{Question, Row, Text};
 use reading::reader::reader_of;
 use rules::{DEFS, VARIABLES};
 use sexp::items::Item;
 use sexp::{items, lex};
 use state::board::{Board, Given};
 use state::defs::{def_named, put_def};
-use state::vars::put_var;
+use state::vars::put_var_row;
 use terms::store::Store;
 
 // Whether no constructor, predicate or variable has these bytes for a name.
@@ -35,7 +36,7 @@ fn is_unused(given: &Given<'_>, board: &Board<'_>, name: &[u8]) -> bool
 
 // `(var NAME SORT)`, by the items of the form; `which` is the number of the text in which its name stands (`Text::number`), or any other that fits into a
 // cell.
-pub fn add_var(
+pub fn add_var_of(
     given: &Given<'_>,
     board: &mut Board<'_>,
     which: usize,
@@ -68,9 +69,25 @@ pub fn add_var(
     if board.n.vars >= VARIABLES {
         return Err(Question::Room(Row::Variables));
     }
-    put_var(board.vars, board.n.vars, sort, which, name);
+    put_var_row(board.vars, board.n.vars, sort, which, name);
     board.n.vars += 1;
     Ok(())
+}
+
+// The same, with the text in which its name stands.
+pub fn add_var(
+    given: &Given<'_>,
+    board: &mut Board<'_>,
+    text: Text,
+    cells: &[u32],
+) -> Result<(), Question>
+    requires { AddsVarIn given.now board.old cells.now }
+    ensures same_board { SameBoard board.old board.new }
+    ensures only { OnlyVars board.old board.new }
+    ensures var_as { (g : AddsVarIn given.now board.old cells.now) → let which = text_number text in
+        VarAs given.now board.old board.new which g.S (add_var which g.xs g.S) result }
+{
+    add_var_of(given, board, text.number(), cells)
 }
 
 // An abbreviation by its row: where its name stands in the text, and the number of its term.

@@ -2,13 +2,13 @@
 #![tactic(auto)]
 
 use printing::line::Line;
-use printing::load::{TextFiles, load_texts};
+use printing::load::{TextFiles, read_texts};
 use std::io;
 use tabled::answers::answer;
 
 fn run(rt: &HostRuntime) -> io::Result<()> {
     let mut files = TextFiles::new();
-    match load_texts(rt, &mut files) {
+    match read_texts(rt, &mut files) {
         Ok(()) => rt.println(Line(answer(&files.texts()))),
         Err(error) => error.write("horn", &mut rt.stderr()),
     }

@@ -5,7 +5,7 @@
 mod blocks;
 
 use crate::blocks::Blocks;
-use printing::load::{TextFiles, load_texts};
+use printing::load::{TextFiles, read_texts};
 use running::texts::Texts;
 use std::io;
 use std::io::Write;
@@ -20,7 +20,7 @@ fn write_facts(rt: &HostRuntime, texts: &Texts<'_>) -> io::Result<()> {
 // As in `horn`, which names itself and writes its own: a function over a closure would save none of the two lines.
 fn run(rt: &HostRuntime) -> io::Result<()> {
     let mut files = TextFiles::new();
-    match load_texts(rt, &mut files) {
+    match read_texts(rt, &mut files) {
         Ok(()) => write_facts(rt, &files.texts()),
         Err(error) => error.write("horn_facts", &mut rt.stderr()),
     }

@@ -110,7 +110,7 @@ fn case_terms(
     let mut plain = [0u64; TERMWORDS];
     let own = &case.own[..case.sorts.len()];
     let width = motive.premises.len();
-    let judgment = motive.at_constructor(
+    let judgment = motive.at_constructor_with(
         store,
         case.constructor,
         own,
@@ -119,7 +119,7 @@ fn case_terms(
         &mut ids[..width],
     )?;
     insert_all(&ids[..width], &mut plain);
-    let end = motive.hypotheses(store, own, case.sorts, map, memo, ids)?;
+    let end = motive.hypotheses_with(store, own, case.sorts, map, memo, ids)?;
     let rows = Rows {
         cells: &ids[..end],
         width,

@@ -1,9 +1,10 @@
 // The three texts that a program is called with, read from files, or why there are none.
-ghost use Rattle.std.specs.Prelude.{◌≡◌, take};
-ghost use Rattle.printing.specs.Loaded.{AreShort};
+ghost use Rattle.std.specs.Prelude.{◌≡◌, take, IfOk};
+ghost use Rattle.printing.specs.Loaded.{AreShort, BlamesArgument};
 
 use crate::bytes::{Bytes, fill};
 use running::texts::Texts;
+use std::alloc::AllocError;
 use std::env::{Env, FillError};
 use std::fmt::InlineText;
 use std::io::{Error, Write};
@@ -30,7 +31,7 @@ pub struct TextFiles {
 }
 
 impl TextFiles {
-    // Empty ones, to be read into. They are lent to `load_texts`, and not handed out by it, so that they stand on the stack once.
+    // Empty ones, to be read into. They are lent to `read_texts`, and not handed out by it, so that they stand on the stack once.
     pub fn new() -> TextFiles
         ensures { (result.theory.many ≡ 0) × (result.goals.many ≡ 0) × (result.proof.many ≡ 0) }
     {
@@ -60,6 +61,15 @@ pub enum LoadError {
     Usage,
     Argument(Error),
     File { name: Bytes<NAME>, error: Error },
+}
+
+// For a caller that takes memory: nothing here does.
+impl From<AllocError> for LoadError {
+    ghost from_gives = { λ _ e. BlamesArgument e };
+
+    fn from(error: AllocError) -> LoadError {
+        LoadError::Argument(Error::from(error))
+    }
 }
 
 impl From<FillError> for LoadError {
@@ -130,7 +140,7 @@ fn read_text<R: Files + Env>(
 }
 
 // The three files that the arguments name; without arguments those called theory, goals and proof.
-pub fn load_texts<R: Files + Env>(rt: &R, files: &mut TextFiles) -> Result<(), LoadError>
+pub fn read_texts<R: Files + Env>(rt: &R, files: &mut TextFiles) -> Result<(), LoadError>
     ensures { AreShort files.new }
 {
     if has_argument(rt, 1) && (!has_argument(rt, 3) || has_argument(rt, 4)) {
@@ -139,4 +149,13 @@ pub fn load_texts<R: Files + Env>(rt: &R, files: &mut TextFiles) -> Result<(), L
     read_text(rt, 1, b"theory", &mut files.theory)?;
     read_text(rt, 2, b"goals", &mut files.goals)?;
     read_text(rt, 3, b"proof", &mut files.proof)
+}
+
+// The same, into files of its own, which it hands out.
+pub fn load_texts<R: Files + Env>(rt: &R) -> Result<TextFiles, LoadError>
+    ensures { IfOk result AreShort }
+{
+    let mut files = TextFiles::new();
+    read_texts(rt, &mut files)?;
+    Ok(files)
 }

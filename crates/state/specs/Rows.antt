@@ -11,7 +11,8 @@ use Rattle.state.specs.declared.sizes.Sizes.{Sizes}
 use Rattle.state.specs.declared.vars.VarTable.{VarTable}
 use Rattle.cells.specs.declared.Span.{Span}
 use Rattle.questions.specs.declared.Row.{Row}
-use Rattle.questions.specs.Numbers.{row_number}
+use Rattle.questions.specs.declared.Text.{Text}
+use Rattle.questions.specs.Numbers.{row_number, text_number}
 
 -- cell j of row i, of w cells a row
 abbrev pub cell : ℕ → List ℕ → ℕ → ℕ → ℕ
@@ -39,6 +40,11 @@ SomeVarsIn t = SomeVars t.goals.now t.text.now t.rows.now t.count
 -- a whole table of them, and the number of a row
 abbrev pub VarAt : List ℕ → ℕ → Type 0
 VarAt vars v = (length vars ≡ 4 * VARIABLES) × (v < VARIABLES)
+
+-- the cell for the text of a name, 0 for that of a made variable
+abbrev pub text_cell : Option Text → ℕ
+text_cell (some t) = text_number t
+text_cell nothing = 0
 
 -- Abbreviations ------------------------------------------------------------------------------------------------------------------
 

@@ -53,7 +53,7 @@ module _ {X : Texts} {T : TheoryLists} {B : Board} {n : Sizes} {m : Mark} {S : S
         store = h.store;
       }
 
-  -- `add_var`, by the row that `put_var` writes
+  -- `add_var`, by the row that `put_var_row` writes
   pub stands_var : (v : Var) (end : ℕ) → n.vars < VARIABLES → NameIn (text_of X.goals X.text v.text) v.name →
       end ≡ v.name.start + length v.name.bytes →
       Stands X T

@@ -1,5 +1,5 @@
 -- Laws of the table of variables: what its cells say, a variable more, variables less. Assumes nothing.
-use Rattle.std.specs.Prelude.{◌≡◌, refl, ℕ, ◌+◌, ◌-◌, ◌*◌, ◌<◌, ◌≤◌, List, [], ◌∷◌, ◌++◌, length, get_or, take, replicate}
+use Rattle.std.specs.Prelude.{◌≡◌, refl, ℕ, ◌+◌, ◌-◌, ◌*◌, ◌<◌, ◌≤◌, List, [], ◌∷◌, ◌++◌, length, get_or, take, replicate, Option, Some as some, None as nothing}
 use Rattle.std.proofs.Math.Path.{sym, ap}
 use Rattle.std.proofs.Common.{◌∙◌, subst, arith, length-append}
 use Rattle.std.proofs.Math.Decide.{dec_lt}
@@ -13,9 +13,12 @@ use Rattle.rules.specs.StateTables.{var_cells}
 use Rattle.rules.specs.Laws.Theory.{All, all_snoc}
 use Rattle.rules.proofs.Laws.Appends.{Behind}
 use Rattle.rules.specs.Laws.Row.{rows_snoc, length_rows, row_cell, append-nil}
+use Rattle.questions.specs.declared.Text.{Text}
+use Rattle.questions.specs.declared.Text.TheVariants as text
+use Rattle.questions.specs.Numbers.{text_number}
 use Rattle.sexp.specs.NameRows.{NameIn}
 use Rattle.state.specs.Held.{text_of, VarCells, VarsHeld}
-use Rattle.state.specs.Rows.{cell}
+use Rattle.state.specs.Rows.{cell, text_cell}
 use Rattle.state.specs.RowCells.{var_row, var_rows_lem, var_width}
 use Rattle.state.specs.RowTables.{Tabled, tabled_long, tabled_at, tabled_behind, tabled_more, tabled_back, all_front, length_one_more}
 
@@ -33,6 +36,16 @@ var_cells_append (v ∷ vs) ws = ap (λ l. v.sort ∷ v.text ∷ v.name.start �
 -- no name, as a made variable has it, stands in any text
 pub no_name_in : (text : List ℕ) → NameIn text no_name
 no_name_in text = record { inside = omega arith; spelt = refl }
+
+-- there are three texts
+pub text_small : (t : Text) → text_number t ≤ 3
+text_small text.Theory = omega arith
+text_small text.Goals = omega arith
+text_small text.Proof = omega arith
+
+pub text_cell_small : (t : Option Text) → text_cell t ≤ 3
+text_cell_small (some t) = text_small t
+text_cell_small nothing = omega arith
 
 -- Reading ------------------------------------------------------------------------------------------------------------------------
 
@@ -72,7 +85,7 @@ module _ {vars : List ℕ} {count : ℕ} {vs : List Var} where
             ∙ ap (filled (4 * VARIABLES)) (sym (var_cells_snoc vs v));
       }
 
-  -- the row that `put_var` writes, of a variable whose name stands in its text
+  -- the row that `put_var_row` writes, of a variable whose name stands in its text
   pub vars_more : {goals text : List ℕ} (v : Var) (end : ℕ) → VarsHeld goals text vars count vs → count < VARIABLES →
       NameIn (text_of goals text v.text) v.name → end ≡ v.name.start + length v.name.bytes →
       VarsHeld goals text (sets vars (4 * count) (v.sort ∷ v.text ∷ v.name.start ∷ end ∷ [])) (count + 1) (vs ++ (v ∷ []))

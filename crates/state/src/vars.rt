@@ -4,12 +4,19 @@ ghost use Rattle.std.specs.Prelude.{◌≡◌, List, [], ◌∷◌, ℕ, ◌*◌
 ghost use Rattle.std.proofs.lemmas.List.Edits.{sets};
 ghost use Rattle.rules.specs.Text.{same};
 ghost use Rattle.rules.specs.State.{Var, var_named, no_var};
-ghost use Rattle.state.specs.Rows.{cell, Fits4, SomeVarsIn, VarsIn, VarAt};
+ghost use Rattle.state.specs.Rows.{cell, Fits4, SomeVarsIn, VarsIn, VarAt, text_cell};
 
 use cells::{Span, span_at};
 use kernel::atoms::put_span;
 use questions::Text;
 use sexp::names::same;
+
+// The cell for the text in which a variable's name stands; a made variable has none, and 0 there.
+fn text_cell(text: Option<Text>) -> usize
+    ensures { result ≡ text_cell text }
+{
+    text.map_or(0, |text| text.number())
+}
 
 // The variables that there are, and the texts in which their names stand.
 #[derive(Clone, Copy)]
@@ -55,7 +62,7 @@ pub fn var_sort(vars: &[u32], v: usize) -> usize
 
 // The row of variable v. `text` is the number of the text in which its name stands (`Text::number`), or any other that fits into a cell; a variable that is
 // made goes by `put_made_var`.
-pub fn put_var(vars: &mut [u32], v: usize, sort: usize, text: usize, name: Span)
+pub fn put_var_row(vars: &mut [u32], v: usize, sort: usize, text: usize, name: Span)
     requires { VarAt vars.old v × Fits4 sort text name.from name.end }
     ensures { vars.new ≡ sets vars.old (4 * v) (sort ∷ text ∷ name.from ∷ name.end ∷ []) }
 {
@@ -65,10 +72,18 @@ pub fn put_var(vars: &mut [u32], v: usize, sort: usize, text: usize, name: Span)
     put_span(vars, at + 2, name);
 }
 
+// The same, with the text in which the name stands: none for a variable that is made.
+pub fn put_var(vars: &mut [u32], v: usize, sort: usize, text: Option<Text>, name: Span)
+    requires { VarAt vars.old v × Fits4 sort name.from name.end 0 }
+    ensures { vars.new ≡ sets vars.old (4 * v) (sort ∷ text_cell text ∷ name.from ∷ name.end ∷ []) }
+{
+    put_var_row(vars, v, sort, text_cell(text), name);
+}
+
 // The row of variable v, which was made: it has no name, and no text in which one stands.
 pub fn put_made_var(vars: &mut [u32], v: usize, sort: usize)
     requires { VarAt vars.old v × (sort < 2 ^ 32) }
     ensures { vars.new ≡ sets vars.old (4 * v) (sort ∷ 0 ∷ 0 ∷ 0 ∷ []) }
 {
-    put_var(vars, v, sort, 0, Span { from: 0, end: 0 });
+    put_var_row(vars, v, sort, 0, Span { from: 0, end: 0 });
 }

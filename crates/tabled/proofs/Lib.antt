@@ -1,3 +1,4 @@
 pub mod Answering
 pub mod Rowing
 pub mod Storing
+pub mod Declaring

@@ -10,6 +10,8 @@ ghost use Rattle.running.specs.Lent.{working};
 ghost use Rattle.tabled.specs.Tabled.{Tabled};
 
 pub mod answers;
+#[cfg(test)]
+mod called;
 mod tables;
 pub mod told;
 

@@ -14,7 +14,7 @@ ghost use Rattle.taking.specs.Tried.{ItemsIn, GoalItemsIn, TriedIn, GoalTriedIn,
 use crate::tags::{tag_of, tag_of_goal};
 use counts::Counts;
 use entering::derive::{Way, add_derived, add_invert};
-use forms::declare::{add_def, add_var};
+use forms::declare::{add_def, add_var_of};
 use forms::goals::{add_goal, add_goal_with};
 use forms::hypotheses::{add_hyp, add_rule_hyp};
 use forms::next::next_index;
@@ -49,7 +49,7 @@ fn goal_items(
         GoalTriedIn given.now board.old board.new store.old store.new g.items.S (chosen 20 goal (tagged goal_form g.items.xs) g.items.xs g.items.S) result }
 {
     match tag_of_goal(given.text, cells).ok_or(Question::GoalForm)? {
-        GoalForm::Variable => add_var(given, board, Text::Goals.number(), cells),
+        GoalForm::Variable => add_var_of(given, board, Text::Goals.number(), cells),
         GoalForm::Goal => add_goal(given, board, store, cells),
         GoalForm::GoalWith => add_goal_with(given, board, store, cells),
     }
@@ -107,7 +107,7 @@ fn form_items(
     let tag = tag_of(given.text, cells).ok_or(Question::ProofForm)?;
     own_index(given.text, cells, tag, board.n)?;
     match tag {
-        Tag::Var => add_var(given, board, Text::Proof.number(), cells).and(Ok(Counts::NONE)),
+        Tag::Var => add_var_of(given, board, Text::Proof.number(), cells).and(Ok(Counts::NONE)),
         Tag::Def => add_def(given, board, store, cells).and(Ok(Counts::NONE)),
         Tag::Step => add_derived(given, board, store, cells, Way::Step, memo, ids),
         Tag::Hyp => add_hyp(given, board, store, cells).and(Ok(one_hypothesis())),

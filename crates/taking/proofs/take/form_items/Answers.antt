@@ -24,8 +24,8 @@ returns-in_err-own_index-clause-tried_as c = λ i.
     let f = rw (there _ _ c.ok_or.ensures.ok_part c.in_ok-tag.was) at (c.tag_of.ensures i.xs i.holds) in
     rw (handed c.from_residual-in_err-own_index.result c.from_residual-in_err-own_index.ensures) (unnumbered i f _ (c.in_err-own_index.ensures (own i f)))
 
-pub add_var-requires : goal.add_var-requires
-add_var-requires c =
+pub add_var_of-requires : goal.add_var_of-requires
+add_var_of-requires c =
     let i = c.requires.0 in (
       gives_var i.stands i.holds (many i (rw (there _ _ c.ok_or.ensures.ok_part c.in_ok-tag.was) at (c.tag_of.ensures i.xs i.holds)) Var c.in-Var.is),
       rw c.number.ensures (omega arith),
@@ -34,8 +34,8 @@ add_var-requires c =
 pub returns-in-Var-clause-tried_as : goal.returns-in-Var-clause-tried_as
 returns-in-Var-clause-tried_as c = λ i.
     let f = rw (there _ _ c.ok_or.ensures.ok_part c.in_ok-tag.was) at (c.tag_of.ensures i.xs i.holds) in
-    rw c.and.ensures (performed i (told Var f c.in-Var.is) (perform_var i.xs i.S) c.add_var.new.board c.args.store.now _
-    (var_tried i c.add_var.new.board _ c.add_var.ensures.only (rw c.number.ensures at (c.add_var.ensures.var_as (gives_var i.stands i.holds (many i f Var c.in-Var.is))))))
+    rw c.and.ensures (performed i (told Var f c.in-Var.is) (perform_var i.xs i.S) c.add_var_of.new.board c.args.store.now _
+    (var_tried i c.add_var_of.new.board _ c.add_var_of.ensures.only (rw c.number.ensures at (c.add_var_of.ensures.var_as (gives_var i.stands i.holds (many i f Var c.in-Var.is))))))
 
 pub add_def-requires : goal.add_def-requires
 add_def-requires c =

@@ -11,8 +11,8 @@ use Rattle.taking.proofs.Heads.{told_goal, untold_goal, goal_many}
 use Rattle.taking.proofs.Arms.{goal_given, goal_untagged, posed, posed_var, posed_goal, posed_row, goal_var}
 use Rattle.taking.proofs.take.goal_items.Goals as goal
 
-pub add_var-requires : goal.add_var-requires
-add_var-requires c = (
+pub add_var_of-requires : goal.add_var_of-requires
+add_var_of-requires c = (
   gives_var c.requires.items.stands c.requires.items.holds (goal_many c.requires.items.xs a_variable (told_goal Variable (rw (there _ _ c.ok_or.ensures.ok_part c.in_ok-ok_or.was) at (c.tag_of_goal.ensures c.requires.items.xs c.requires.items.holds)) c.in-Variable.is)),
   rw c.number.ensures (omega arith),
 )
@@ -27,8 +27,8 @@ pub add_goal_with-requires-clause-lists_len : goal.add_goal_with-requires-clause
 add_goal_with-requires-clause-lists_len c = stands_lists (rw c.requires.text at c.requires.items.stands)
 
 pub returns-in-Variable-clause-tried_as : goal.returns-in-Variable-clause-tried_as
-returns-in-Variable-clause-tried_as c = λ i. posed i (told_goal Variable (rw (there _ _ c.ok_or.ensures.ok_part c.in_ok-ok_or.was) at (c.tag_of_goal.ensures i.items.xs i.items.holds)) c.in-Variable.is) (goal_var i.items.xs i.items.S) c.add_var.new.board c.args.store.now _
-    (posed_var i c.add_var.new.board _ c.add_var.ensures.only (rw c.number.ensures at (c.add_var.ensures.var_as (gives_var i.items.stands i.items.holds (goal_many i.items.xs a_variable (told_goal Variable (rw (there _ _ c.ok_or.ensures.ok_part c.in_ok-ok_or.was) at (c.tag_of_goal.ensures i.items.xs i.items.holds)) c.in-Variable.is))))))
+returns-in-Variable-clause-tried_as c = λ i. posed i (told_goal Variable (rw (there _ _ c.ok_or.ensures.ok_part c.in_ok-ok_or.was) at (c.tag_of_goal.ensures i.items.xs i.items.holds)) c.in-Variable.is) (goal_var i.items.xs i.items.S) c.add_var_of.new.board c.args.store.now _
+    (posed_var i c.add_var_of.new.board _ c.add_var_of.ensures.only (rw c.number.ensures at (c.add_var_of.ensures.var_as (gives_var i.items.stands i.items.holds (goal_many i.items.xs a_variable (told_goal Variable (rw (there _ _ c.ok_or.ensures.ok_part c.in_ok-ok_or.was) at (c.tag_of_goal.ensures i.items.xs i.items.holds)) c.in-Variable.is))))))
 
 pub returns-in-Goal-clause-tried_as : goal.returns-in-Goal-clause-tried_as
 returns-in-Goal-clause-tried_as c = λ i. posed i (told_goal Goal (rw (there _ _ c.ok_or.ensures.ok_part c.in_ok-ok_or.was) at (c.tag_of_goal.ensures i.items.xs i.items.holds)) c.in-Goal.is) refl c.add_goal.new.board c.add_goal.new.store _

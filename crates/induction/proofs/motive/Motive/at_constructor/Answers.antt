@@ -1,17 +1,11 @@
-use Rattle.std.proofs.lemmas.Result.{err_from_is_err_and}
-use Rattle.induction.proofs.Casings.{put_movable, built_full, built_moved}
+use native.Mathlib.Omega.{arith}
+use Rattle.induction.proofs.Moves.{put_none}
 use Rattle.induction.proofs.motive.Motive.at_constructor.Goals as goal
 
-pub returns-in_err-t-clause-moved_as : goal.returns-in_err-t-clause-moved_as
-returns-in_err-t-clause-moved_as c =
-    let p = err_from_is_err_and c.from_residual.result c.from_residual.ensures.1 in
-    rw (p.1, p.2) (built_full c.requires.casing.1 c.args.self.now.sort _ _ c.in_err-t.ensures.kept.says)
+pub at_constructor_with-requires-clause-casing : goal.at_constructor_with-requires-clause-casing
+at_constructor_with-requires-clause-casing c =
+    let g = c.requires.casing.0 in
+    (record { good = g.good; symbol = omega (arith, g.symbol); narrow = g.narrow; small = g.small }, c.requires.casing.1)
 
-pub judgment_first-requires : goal.judgment_first-requires
-judgment_first-requires c = put_movable c.requires.casing.1 c.in_ok-t.ensures.kept.says c.put.ensures c.requires.memo_value.0 c.requires.memo_value.1
-
-pub returns-clause-moved_as : goal.returns-clause-moved_as
-returns-clause-moved_as c = built_moved c.requires.casing.1 c.args.self.now.sort _ _ c.in_ok-t.ensures.kept.says c.put.ensures _ _ _ _ c.judgment_first.result c.judgment_first.ensures.moved_as
-
-pub returns-clause-put : goal.returns-clause-put
-returns-clause-put c = (_, c.put.ensures)
+pub at_constructor_with-requires-clause-put : goal.at_constructor_with-requires-clause-put
+at_constructor_with-requires-clause-put c = put_none _

@@ -2,7 +2,7 @@ use mathlib.Core.Path.{◌≡◌}
 use Rattle.terms.specs.Lent.{SameTables}
 use Rattle.induction.specs.Inducing.{PutAt}
 use Rattle.induction.proofs.Supposes.{Supposing}
-use Rattle.induction.proofs.motive.Motive.hypotheses.Given as goal
+use Rattle.induction.proofs.motive.Motive.hypotheses_with.Given as goal
 
 abbrev pub invariant-loop-v : goal.invariant-loop-v
 invariant-loop-v l =
